@@ -1,0 +1,5 @@
+pub mod Clock
+pub mod FailingCalls
+pub mod MemSink
+pub mod MemSource
+pub mod Outside

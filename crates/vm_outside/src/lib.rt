@@ -1,0 +1,45 @@
+//! What the program meets of the world: bytes in and out, connections, files, time and patterns.
+//!
+//! Each is a trait. An object may tell its content to the contracts, as those in memory do, or tell
+//! nothing, as an adapter of the operating system does. It counts its faults in either case, and a
+//! call answers `Failed` only where its count rose, so that no code above can make a fault up.
+//!
+//! Read `Source` first, then `Sink` and `write_all`, then the others. The words of the clauses
+//! stand in `specs/Outside.antt` and `specs/Clock.antt`, and laws about them in
+//! `proofs/Streams.antt`. The repository's `docs/outside.md` says how to write an adapter.
+//!
+//! It stands on `vm_base` for `List` and `Text`, the groups of a pattern.
+#![tactic(auto)]
+
+mod clock;
+mod disk;
+mod failed;
+mod failing_calls;
+mod link;
+mod mem_clock;
+mod mem_sink;
+mod mem_source;
+mod no_disk;
+mod no_link;
+mod no_patterns;
+mod patterns;
+mod sink;
+mod source;
+#[cfg(test)]
+mod tests;
+mod writing;
+
+pub use clock::Clock;
+pub use disk::Disk;
+pub use failed::Failed;
+pub use link::Link;
+pub use mem_clock::MemClock;
+pub use mem_sink::MemSink;
+pub use mem_source::MemSource;
+pub use no_disk::NoDisk;
+pub use no_link::NoLink;
+pub use no_patterns::{NoPattern, NoPatterns};
+pub use patterns::{Pattern, PatternFault, Patterns};
+pub use sink::Sink;
+pub use source::Source;
+pub use writing::write_all;
