@@ -1,0 +1,3 @@
+pub mod Dec
+pub mod NumberText
+pub mod SampleText
