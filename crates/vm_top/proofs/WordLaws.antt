@@ -1,0 +1,12 @@
+-- Words of a command line.
+use Rattle.std.proofs.Common.{◌≡◌, ℕ, ◌≤◌, List, [], ◌∷◌, ◌++◌, length, None, arith, refl, length-append}
+use Rattle.vm_top.specs.Words.{question}
+
+three_or_more : (words : List (List ℕ)) → 3 ≤ length words → None ≡ question words
+three_or_more [] h = absurd (omega arith)
+three_or_more (a ∷ []) h = absurd (omega arith)
+three_or_more (a ∷ b ∷ []) h = absurd (omega arith)
+three_or_more (a ∷ b ∷ c ∷ more) h = refl
+
+pub question-long : (before after : List (List ℕ)) → 3 ≤ length before → None ≡ question (before ++ after)
+question-long before after h = three_or_more (before ++ after) (omega (arith, length-append before after))

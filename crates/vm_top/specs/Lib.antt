@@ -1,0 +1,11 @@
+pub mod Answer
+pub mod ExitCodes
+pub mod Feeds
+pub mod Held
+pub mod Latest
+pub mod Lines
+pub mod Reply
+pub mod Rows
+pub mod Statuses
+pub mod Window
+pub mod Words

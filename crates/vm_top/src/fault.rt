@@ -1,0 +1,58 @@
+//! Why a command ends without an answer.
+
+use crate::status::Status;
+use std::alloc::AllocError;
+use thiserror::Error;
+
+/// Why a command did not do what was asked of it.
+#[derive(Clone, Copy, Debug, PartialEq, Eq, Error)]
+pub enum Fault {
+    /// The words are no command.
+    #[error("usage")]
+    Usage,
+    /// A line of the input isn't of the form that the program reads.
+    #[error("not built")]
+    NotBuilt,
+    /// The input has 2^62 bytes and no end among them.
+    #[error("input too long")]
+    InputTooLong,
+    /// The input failed.
+    #[error("input fault")]
+    Input,
+    /// The output failed.
+    #[error("output fault")]
+    Output,
+    /// There was no memory.
+    #[error("out of memory")]
+    Memory,
+}
+
+impl From<AllocError> for Fault {
+    ghost use Rattle.std.specs.Prelude.{◌≡◌};
+    ghost use Rattle.vm_top.specs.declared.fault.Fault.TheVariants.{Memory};
+
+    ghost from_gives = { λ _ fault. fault ≡ Memory };
+
+    fn from(_error: AllocError) -> Fault {
+        Fault::Memory
+    }
+}
+
+impl Fault {
+    ghost use Rattle.std.specs.Prelude.{◌≡◌};
+    ghost use Rattle.vm_top.specs.Statuses.{status_of};
+
+    /// The status of the program that ends by this fault.
+    pub fn status(self) -> Status
+        ensures { result ≡ status_of self }
+    {
+        match self {
+            Fault::Usage => Status::Usage,
+            Fault::NotBuilt => Status::Refused,
+            Fault::InputTooLong => Status::Refused,
+            Fault::Input => Status::InputFault,
+            Fault::Output => Status::OutputFault,
+            Fault::Memory => Status::Memory,
+        }
+    }
+}
