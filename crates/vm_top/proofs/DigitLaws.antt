@@ -4,7 +4,7 @@ use Rattle.std.specs.Prelude.{◌&&◌, nat_lt, nat_le, if◌then◌else◌}
 use Rattle.std.specs.List.{list_all}
 use Rattle.std.specs.Char.{is_ascii_digit, digit_value}
 use Rattle.std.specs.Str.Parse.{digits_value, digits_value_after}
-use Rattle.vm_top.specs.Words.{time_of}
+use Rattle.vm_top.specs.Digits.{time_of}
 
 -- the time that digits write which follow those of a number
 abbrev pub time_after : ℕ → List ℕ → Option ℕ

@@ -12,7 +12,8 @@ use Rattle.vm_top.specs.Latest.{latest_in}
 use Rattle.vm_top.specs.Feeds.{HasNoFeed}
 use Rattle.vm_top.specs.Lines.{lines, onto_first, without_return}
 use Rattle.vm_top.specs.Rows.{Row, row_of, line_rows, rows_of, is_space}
-use Rattle.vm_top.specs.Words.{is_name, time_of}
+use Rattle.vm_top.specs.Digits.{time_of}
+use Rattle.vm_top.specs.Name.{is_name}
 
 -- a list is what stands before and after its first item that passes, and that item
 parts : {X : Type 0} (p : X → Bool) (xs : List X) → length xs ≤ length (before_first p xs) + 1 + length (after_first p xs)

@@ -10,7 +10,8 @@ use Rattle.std.proofs.lemmas.List.Folds.{list_all_at}
 use Rattle.std.specs.Char.{is_ascii_digit}
 use Rattle.vm_decimal.specs.SampleText.{sample_value}
 use Rattle.vm_top.specs.Rows.{Row, row_of, is_space}
-use Rattle.vm_top.specs.Words.{begins_name, is_name, is_name_byte, time_of}
+use Rattle.vm_top.specs.Digits.{time_of}
+use Rattle.vm_top.specs.Name.{begins_name, is_name, is_name_byte}
 
 -- a space stands in no name
 no_space : (byte : ℕ) → is_name_byte byte ≡ true → is_space byte ≡ false

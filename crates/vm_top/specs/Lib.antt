@@ -1,9 +1,11 @@
 pub mod Answer
+pub mod Digits
 pub mod ExitCodes
 pub mod Feeds
 pub mod Held
 pub mod Latest
 pub mod Lines
+pub mod Name
 pub mod Reply
 pub mod Rows
 pub mod Statuses

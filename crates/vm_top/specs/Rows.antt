@@ -5,7 +5,8 @@ use Rattle.std.specs.List.{before_first, after_first}
 use Rattle.vm_base.specs.declared.stamped.Stamped.{Stamped}
 use Rattle.vm_decimal.specs.SampleText.{sample_value}
 use Rattle.vm_top.specs.Lines.{lines, without_return}
-use Rattle.vm_top.specs.Words.{is_name, time_of}
+use Rattle.vm_top.specs.Digits.{time_of}
+use Rattle.vm_top.specs.Name.{is_name}
 
 -- a sample of the series whose one label is the name
 pub record Row : Type 0 where

@@ -1,7 +1,7 @@
 //! Times written in digits.
 
 ghost use Rattle.std.specs.Prelude.{◌≡◌, ◌<◌, ◌^◌, IfSome};
-ghost use Rattle.vm_top.specs.Words.{time_of};
+ghost use Rattle.vm_top.specs.Digits.{time_of};
 
 use vm_base::limits::MAX_TIME;
 

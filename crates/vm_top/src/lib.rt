@@ -5,7 +5,8 @@
 //! over the whole input, and each other status has its cause. Read it first, and then the definitions
 //! that it cites, from the answer down: `specs/Answer.antt`, `specs/Window.antt`, `specs/Rows.antt`,
 //! `specs/Lines.antt` and `specs/Reply.antt`; the statuses are in `specs/Statuses.antt`, the words in
-//! `specs/Words.antt`. `plain_answer` is the slow program that reads like the definition.
+//! `specs/Words.antt`, names in `specs/Name.antt`, times in `specs/Digits.antt`. `plain_answer` is the
+//! slow program that reads like the definition.
 //!
 //! The input is read by pieces into a buffer of fixed length (`held`); of its rows only the latest one
 //! in the window is kept (`latest`).

@@ -3,7 +3,7 @@
 ghost use Rattle.std.specs.Prelude.{◌≡◌, ◌≤◌, true, length, None, IfSome, IfNone};
 ghost use Rattle.std.specs.List.{before_first, after_first, list_all, prefix_len};
 ghost use Rattle.vm_top.specs.Rows.{row_of, is_space};
-ghost use Rattle.vm_top.specs.Words.{begins_name, is_name, is_name_byte};
+ghost use Rattle.vm_top.specs.Name.{begins_name, is_name, is_name_byte};
 
 /// Whether a text is a metric name, `[A-Za-z_:][A-Za-z0-9_:]*`.
 pub fn is_name(text: &[u8]) -> bool

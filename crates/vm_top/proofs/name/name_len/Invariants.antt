@@ -1,6 +1,6 @@
 use Rattle.std.proofs.Common.{◌≡◌, ◌+◌, ◌-◌, ◌≤◌, length, drop}
 use Rattle.std.specs.List.{prefix_len}
-use Rattle.vm_top.specs.Words.{is_name_byte}
+use Rattle.vm_top.specs.Name.{is_name_byte}
 use Rattle.vm_top.proofs.name.name_len.Given as goal
 
 abbrev pub invariant-name : goal.invariant-name
