@@ -1,6 +1,10 @@
+pub mod FirstWrong
 pub mod Form
 pub mod Number
+pub mod Rounding
+pub mod Run
 pub mod Sample
 pub mod Sorted
 pub mod Stamped
+pub mod Thinned
 pub mod formers
