@@ -1,3 +1,12 @@
+pub mod NumberReadings
 mod NumberTexts
+mod QuickDigits
+mod ReadNumbers
+mod Readers
+pub mod Roundings
+pub mod SampleDigits
 mod SampleForms
-mod SampleTexts
+pub mod SampleReadings
+pub mod SampleTexts
+mod Spellings
+mod WordLaws

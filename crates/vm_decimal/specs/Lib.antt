@@ -1,3 +1,10 @@
 pub mod Dec
+pub mod Leading
+pub mod NumberMachine
 pub mod NumberText
+pub mod Quick
+pub mod Reader
+pub mod Rounded
 pub mod SampleText
+pub mod Spelled
+pub mod Words

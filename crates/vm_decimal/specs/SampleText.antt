@@ -1,30 +1,46 @@
--- The texts of sample values.
-use Rattle.std.specs.Prelude.{ℕ, ◌-◌, ◌==◌, ◌&&◌, nat_le, ℤ, Bool, true, false, List, ◌++◌, length, drop, Option, Some, None, if◌then◌else◌, slice_index}
-use Rattle.std.specs.List.{before_first, after_first, list_all}
-use Rattle.std.specs.Option.{option_map}
-use Rattle.std.specs.Char.{is_ascii_digit}
-use Rattle.std.specs.Str.Parse.{digits_value}
-use Rattle.vm_base.specs.Number.{number}
+-- What the text of a sample's value says.
+use Rattle.std.specs.Prelude.{◌≡◌, ℕ, ◌⊎◌, max, ℤ, List, Option, Some, None, Result, Ok, Err}
+use Rattle.vm_base.specs.Run.{reading}
+use Rattle.vm_decimal.specs.Spelled.{Spelled, IsNumber, IsAnyNumber}
+use Rattle.vm_decimal.specs.NumberMachine.{step, final, start}
+use Rattle.vm_decimal.specs.Rounded.{sample_value}
+use Rattle.vm_decimal.specs.Words.{IsNoNumber, no_numbers, wrong_among}
+use Rattle.vm_decimal.specs.declared.sample_text.SampleText.{SampleText}
+use Rattle.vm_decimal.specs.declared.sample_text.SampleText.TheVariants.{Value, NoNumber}
+use Rattle.vm_decimal.specs.declared.sample_text.NumFault.{NumFault}
+use Rattle.vm_decimal.specs.declared.sample_text.NumFault.TheVariants.{NotANumber, TooWide}
 
--- whether a byte is the point
-abbrev pub is_point : ℕ → Bool
-is_point byte = byte == 46
+-- the text of a number, or one that says that there is none
+abbrev pub IsSampleText : List ℕ → Type 0
+IsSampleText text = IsAnyNumber text ⊎ IsNoNumber text
 
--- what the digits of a text without sign write without the point, and how many stand behind it:
--- 1 to 18 digits with at most one point among or beside them
-abbrev pub digits_in : List ℕ → Option (ℕ × ℕ)
-digits_in text =
-    let fraction = after_first is_point text in
-    let digits = before_first is_point text ++ fraction in
-    if list_all is_ascii_digit digits && nat_le 1 (length digits) && nat_le (length digits) 18
-    then Some (digits_value 10 digits, length fraction) else None
+-- the text writes a number that is rounded to this sample, or to none
+abbrev pub SaysValue : List ℕ → ℤ → Type 0
+SaysValue text z = (spelled : Spelled) × IsNumber text spelled × (sample_value spelled ≡ Some z)
 
--- the number of a text without sign, or that below zero
-abbrev pub unsigned_value : Bool → List ℕ → Option ℤ
-unsigned_value negative text = option_map (λ d. number negative d.0 (1000 - d.1)) (digits_in text)
+abbrev pub IsTooWide : List ℕ → Type 0
+IsTooWide text = (spelled : Spelled) × IsNumber text spelled × (sample_value spelled ≡ None)
 
--- the number of a text: the same with an optional `-` before it
-abbrev pub sample_value : List ℕ → Option ℤ
-sample_value text =
-    if slice_index text 0 == 45 then unsigned_value true (drop 1 text)
-    else unsigned_value false text
+-- what the text says, as it is computed. That this is what the grammar says is proved.
+
+-- the number of a text, or the place where it is none
+abbrev pub number_reading : List ℕ → Result Spelled ℕ
+number_reading text = reading step final start text
+
+-- the sample of a number that was read
+abbrev pub valued : Result Spelled ℕ → Result (Option ℤ) ℕ
+valued (Ok spelled) = Ok (sample_value spelled)
+valued (Err at) = Err at
+
+-- a text that is a number up to this place, by where it leaves the words for no number
+abbrev pub no_number_reading : ℕ → Option ℕ → Result SampleText NumFault
+no_number_reading at None = Ok NoNumber
+no_number_reading at (Some far) = Err (NotANumber (max at far))
+
+abbrev pub value_reading : List ℕ → Result (Option ℤ) ℕ → Result SampleText NumFault
+value_reading text (Ok (Some z)) = Ok (Value z)
+value_reading text (Ok None) = Err TooWide
+value_reading text (Err at) = no_number_reading at (wrong_among no_numbers text)
+
+unfoldable pub sample_reading : List ℕ → Result SampleText NumFault
+sample_reading text = value_reading text (valued (number_reading text))

@@ -4,17 +4,27 @@
 //! contracts see of a `Dec`. Inside it are a sign, a size and an exponent in normal form.
 //!
 //! Read `Dec` first, then `read_sample`. How a number is written is defined in
-//! `specs/NumberText.antt`, and which texts are read in `specs/SampleText.antt`.
+//! `specs/NumberText.antt`. Which texts are numbers is the grammar of `specs/Spelled.antt`, how they
+//! are rounded stands in `specs/Rounded.antt`, and what `read_sample` answers in
+//! `specs/SampleText.antt`. Inside, `quick` reads what most values are, and `reader` any number, one
+//! byte a turn.
 //!
-//! It stands on `vm_base` for `Sample` and the normal form, on `itoa` for digits and on `arrayvec`
-//! for a text of bounded length.
+//! It stands on `vm_base` for `Sample`, the normal form and first wrong places, on `itoa` for digits
+//! and on `arrayvec` for a text of bounded length.
 #![tactic(auto)]
 
 mod dec;
+mod leading;
+mod number_machine;
 mod number_text;
+mod quick;
+mod reader;
 mod sample_text;
 #[cfg(test)]
+mod sample_text_tests;
+#[cfg(test)]
 mod tests;
+mod words;
 
 pub use dec::Dec;
-pub use sample_text::read_sample;
+pub use sample_text::{NumFault, SampleText, read_sample};

@@ -1,13 +1,12 @@
 use Rattle.std.proofs.Common.{◌≡◌, ◌≤◌, ◌<◌, ◌+◌, ◌*◌, ◌^◌, take, length, ◌-◌}
-use Rattle.std.specs.Char.{is_ascii_digit}
-use Rattle.std.specs.List.{prefix_len}
 use Rattle.std.specs.Str.Parse.{digits_value_after}
-use Rattle.vm_decimal.proofs.sample_text.leading_digits.Given as goal
+use Rattle.vm_decimal.specs.Spelled.{IsDigits}
+use Rattle.vm_decimal.proofs.quick.leading_digits.Given as goal
 
 abbrev pub invariant-front : goal.invariant-front
 invariant-front l = record {
   within : l.count ≤ length l.text;
-  front : l.count ≤ prefix_len is_ascii_digit l.text;
+  digits : IsDigits (take l.count l.text);
   value : l.value ≡ digits_value_after 10 l.before (take l.count l.text);
   small : l.value < (l.before + 1) * 10 ^ l.count;
 }

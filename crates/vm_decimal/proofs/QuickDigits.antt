@@ -1,0 +1,266 @@
+-- The fast way finds what the grammar says.
+use Rattle.std.specs.Prelude.{◌≡◌, ℕ, suc, ◌+◌, ◌-◌, ◌*◌, ◌^◌, ◌<◌, ◌≤◌, ℤ, pos, ◌+ℤ◌, ◌-ℤ◌, Bool, true, List, [], ◌∷◌, ◌++◌, length, take, drop, Option, Some, None, Ok, IfSome, codes, ◌⊎◌, unsigned_abs}
+use Rattle.std.specs.Char.{is_ascii_digit}
+use Rattle.std.specs.Str.Parse.{digits_value_after}
+use Rattle.std.proofs.Common.{refl, arith, sym, ap, subst, ◌∙◌, inl, inr, ⊎_elim, append-nil, add-one, drop-cons, take_all, pow-add, length-drop, length-take, take-add, take-take}
+use Rattle.std.proofs.Math.ListN.{get_or}
+use Rattle.std.proofs.Math.Nat.{pow-suc, pow-le-pow_right, mul-le-mul_left, mul-le-mul_right}
+use Rattle.std.proofs.lemmas.Bool.Decides.{nat_tests}
+use Rattle.std.proofs.lemmas.Int.{ints}
+use Rattle.std.proofs.lemmas.List.{take_more, take_rest, take-append-drop, length-take-le}
+use Rattle.vm_base.specs.Form.{unsigned_abs-signed}
+use Rattle.vm_base.specs.Number.{signed}
+use Rattle.vm_base.specs.Sample.{sample_of}
+use Rattle.vm_decimal.specs.Quick.{BeginsQuick, FewDigits, SignedPower, QuickPower, QuickValue}
+use Rattle.vm_decimal.specs.Rounded.{sample_value}
+use Rattle.vm_decimal.specs.SampleText.{number_reading, valued}
+use Rattle.vm_decimal.specs.Spelled.{IsDigits, IsSign, IsNumber}
+use Rattle.vm_decimal.proofs.NumberReadings.{number_reading-number}
+use Rattle.vm_decimal.proofs.Roundings.{surplus-short, nearest-one}
+use Rattle.vm_decimal.proofs.SampleDigits.{spelling, sample_of_digits-sample_of}
+use Rattle.vm_decimal.proofs.Spellings.{value_append, digit_is}
+
+-- one digit more
+
+pub digit_small : (b : ℕ) → is_ascii_digit b ≡ true → b - 48 < 10
+digit_small b digit = grind (arith, nat_tests)
+
+digits-append : (xs ys : List ℕ) → IsDigits xs → IsDigits ys → IsDigits (xs ++ ys)
+digits-append [] ys first more = more
+digits-append (x ∷ xs) ys first more = (first.0, digits-append xs ys first.1 more)
+
+pub digits_more : (text : List ℕ) (i : ℕ) → i < length text → is_ascii_digit (get_or text i 0) ≡ true
+    → IsDigits (take i text) → IsDigits (take (i + 1) text)
+digits_more text i here digit so_far =
+    subst IsDigits (sym (take_more text i 0 here))
+    (digits-append (take i text) (get_or text i 0 ∷ []) so_far (digit, tt))
+
+pub value_more : (n : ℕ) (text : List ℕ) (i v : ℕ) → i < length text
+    → is_ascii_digit (get_or text i 0) ≡ true → v ≡ digits_value_after 10 n (take i text)
+    → v * 10 + (get_or text i 0 - 48) ≡ digits_value_after 10 n (take (i + 1) text)
+value_more n text i v here digit is =
+    let more = ap (digits_value_after 10 n) (take_more text i 0 here)
+    ∙ value_append n (take i text) (get_or text i 0 ∷ []) in
+    omega (arith, more, digit_is (get_or text i 0) digit)
+
+-- 19 digits fit 64 bits
+
+pub small_more : (a v digit i : ℕ) → v < a * 10 ^ i → digit < 10 → v * 10 + digit < a * 10 ^ (i + 1)
+small_more a v digit i small is = rw add-one (omega (arith, ap (λ n. a * n) (pow-suc 10 i)))
+
+pub room_more : (a v i n : ℕ) → v < a * 10 ^ i → i < n → a * 10 ^ n ≤ 10 ^ 19 → v * 10 + 9 < 10 ^ 19
+room_more a v i n small within room =
+    let more : 10 ^ (i + 1) ≤ 10 ^ n = pow-le-pow_right {n = 10} (omega arith) (omega arith) in
+    let all : a * 10 ^ (i + 1) ≤ a * 10 ^ n = mul-le-mul_left a more in
+    let next : v * 10 + 9 < a * 10 ^ (i + 1) = small_more a v 9 i small (omega arith) in
+    omega arith
+
+behind : (whole end size count all : ℕ) → whole < 1 * 10 ^ end → size ≤ (whole + 1) * 10 ^ count
+    → end + count ≤ all → size ≤ 10 ^ all
+behind whole end size count all small less few =
+    let first : (whole + 1) * 10 ^ count ≤ 10 ^ end * 10 ^ count =
+    mul-le-mul_right (10 ^ count) (omega arith) in
+    let more : 10 ^ (end + count) ≤ 10 ^ all = pow-le-pow_right {n = 10} (omega arith) few in
+    omega (arith, pow-add 10 end count)
+
+pub room_behind : (whole end count : ℕ) → whole < 1 * 10 ^ end → end + count ≤ 19
+    → (whole + 1) * 10 ^ count ≤ 10 ^ 19
+room_behind whole end count small few =
+    behind whole end ((whole + 1) * 10 ^ count) count 19 small (omega arith) few
+
+few_behind : (whole end size count : ℕ) → whole < 1 * 10 ^ end → size < (whole + 1) * 10 ^ count
+    → end + count ≤ 18 → size < 10 ^ 18
+few_behind whole end size count small less few =
+    let at_most : size + 1 ≤ 10 ^ 18 =
+    behind whole end (size + 1) count 18 small (omega arith) few in
+    omega arith
+
+-- mantissas
+
+-- the front of a text's front
+front_take : (text front : List ℕ) (m end : ℕ) → front ≡ take m text → end ≤ length front
+    → take end front ≡ take end text
+front_take text front m end is within =
+    let short : end ≤ m = omega (arith, ap length is, length-take m text) in
+    ap (take end) is ∙ take-take end m text short
+
+pub whole_quick : (text front : List ℕ) (m value end : ℕ) → front ≡ take m text → m ≤ 18
+    → end ≤ length front → 1 ≤ end → IsDigits (take end front)
+    → value ≡ digits_value_after 10 0 (take end front) → value < 1 * 10 ^ end
+    → BeginsQuick text value 0 end
+whole_quick text front m value end is few within some digits value_is small =
+    let same : take end front ≡ take end text = front_take text front m end is within in
+    let inside : end ≤ length text = omega (arith, ap length is, length-take m text) in
+    let short : end ≤ 18 = omega (arith, ap length is, length-take m text) in
+    let count : length (take end text) ≡ end = length-take-le end text inside in
+    let power : 10 ^ end ≤ 10 ^ 18 = pow-le-pow_right {n = 10} (omega arith) short in
+    record {
+      within = inside;
+      is = record {
+        mantissa = record {
+          whole = take end text;
+          point = [];
+          fraction = [];
+          parts = sym (append-nil (take end text));
+          whole_digits = subst IsDigits same digits;
+          fraction_digits = tt;
+          a_digit = omega arith;
+          one_point = inr (refl, refl);
+          digits_are = value_is ∙ ap (digits_value_after 10 0) (same ∙ sym (append-nil (take end text)));
+          places_are = refl;
+        };
+        few = omega arith;
+        near = omega arith;
+      };
+    }
+
+pub pointed_quick : (text front rest : List ℕ) (m k whole end size places : ℕ) → front ≡ take m text
+    → m ≤ 18 → end ≤ length front → end < length text → get_or text end 0 ≡ 46
+    → IsDigits (take end front) → whole ≡ digits_value_after 10 0 (take end front) → whole < 1 * 10 ^ end
+    → rest ≡ take k (take (length text - (end + 1)) (drop (end + 1) text)) → k ≤ 18 - end
+    → places ≤ length rest → IsDigits (take places rest)
+    → size ≡ digits_value_after 10 whole (take places rest) → size < (whole + 1) * 10 ^ places
+    → 1 ≤ end + places → BeginsQuick text size places (end + 1 + places)
+pointed_quick text front rest m k whole end size places is few within here point digits whole_is small rest_is near all more size_is less some =
+    let same : take end front ≡ take end text = front_take text front m end is within in
+    let behind_point : take (length text - (end + 1)) (drop (end + 1) text) ≡ drop (suc end) text =
+    take_rest text (end + 1) ∙ ap (λ n. drop n text) (add-one end) in
+    let rest_same : rest ≡ take k (drop (suc end) text) = rest_is ∙ ap (take k) behind_point in
+    let fraction : take places rest ≡ take places (drop (suc end) text) =
+    front_take (drop (suc end) text) rest k places rest_same all in
+    let short : end ≤ 18 = omega (arith, ap length is, length-take m text) in
+    let left : places ≤ k = omega (arith, ap length rest_same, length-take k (drop (suc end) text)) in
+    let far : places ≤ length (drop (suc end) text) = omega (arith, ap length rest_same, length-take k (drop (suc end) text)) in
+    let count : length (take end text) ≡ end = length-take-le end text (omega arith) in
+    let count_behind : length (take places (drop (suc end) text)) ≡ places =
+    length-take-le places (drop (suc end) text) far in
+    let next : end + 1 + places ≡ end + suc places = omega arith in
+    let parts : take (end + 1 + places) text ≡ take end text ++ (46 ∷ take places (drop (suc end) text)) =
+    ap (λ n. take n text) next ∙ take-add end (suc places) text
+    ∙ ap (λ t. take end text ++ take (suc places) t) (drop-cons text end 0 here ∙ ap (λ b. b ∷ drop (suc end) text) point) in
+    record {
+      within = omega (arith, length-drop (suc end) text);
+      is = record {
+        mantissa = record {
+          whole = take end text;
+          point = codes ".";
+          fraction = take places (drop (suc end) text);
+          parts = parts;
+          whole_digits = subst IsDigits same digits;
+          fraction_digits = subst IsDigits fraction more;
+          a_digit = omega arith;
+          one_point = inl refl;
+          digits_are = size_is ∙ ap (digits_value_after 10 whole) fraction
+              ∙ ap (λ n. digits_value_after 10 n (take places (drop (suc end) text)))
+              (whole_is ∙ ap (digits_value_after 10 0) same)
+              ∙ sym (value_append 0 (take end text) (take places (drop (suc end) text)));
+          places_are = sym count_behind;
+        };
+        few = few_behind whole end size places small less (omega arith);
+        near = omega arith;
+      };
+    }
+
+-- exponents
+
+pub all_digits : (text : List ℕ) (size count : ℕ) → 0 < length text → length text ≤ 4
+    → count ≤ length text → length text ≤ count → IsDigits (take count text)
+    → size ≡ digits_value_after 10 0 (take count text) → size < 1 * 10 ^ count → FewDigits text size
+all_digits text size count some few within all digits size_is small =
+    let same : take count text ≡ text = take_all count text all in
+    let power : 10 ^ count ≤ 10 ^ 4 = pow-le-pow_right {n = 10} (omega arith) {i = count} {j = 4} (omega arith) in
+    record {
+      some = some;
+      all = subst IsDigits same digits;
+      is = size_is ∙ ap (digits_value_after 10 0) same;
+      few = omega arith;
+    }
+
+pub first_byte : (text : List ℕ) (b : ℕ) → 1 ≤ length text → get_or text 0 0 ≡ b
+    → text ≡ b ∷ take (length text - 1) (drop 1 text)
+first_byte [] b some first = absurd (omega arith)
+first_byte (c ∷ cs) b some first =
+    ap (λ d. d ∷ cs) first ∙ ap (λ t. b ∷ t) (sym (take_rest (c ∷ cs) 1))
+
+pub no_power : QuickPower [] (pos 0)
+no_power = record { is = inl (refl, refl); few = omega arith }
+
+small_power : (negative : Bool) (size : ℕ) → size < 10 ^ 4 → unsigned_abs (signed negative size) < 10 ^ 4
+small_power negative size few = omega (arith, unsigned_abs-signed negative size)
+
+pub marked_power : (text rest : List ℕ) (b : ℕ) (power : ℤ) → text ≡ b ∷ rest → (b ≡ 101) ⊎ (b ≡ 69)
+    → SignedPower rest power → QuickPower text power
+marked_power text rest b power parts letter p =
+    let few = p.are_few in
+    record {
+      is = inr (record {
+        letter = b ∷ [];
+        sign = p.sign;
+        digits = p.digits;
+        negative = p.negative;
+        parts = parts ∙ ap (λ t. b ∷ t) p.parts;
+        a_letter = ⊎_elim (λ low. inl (ap (λ c. c ∷ []) low)) (λ high. inr (ap (λ c. c ∷ []) high)) letter;
+        a_sign = p.a_sign;
+        all_digits = few.all;
+        a_digit = few.some;
+        power_is = p.is ∙ ap (signed p.negative) few.is;
+      });
+      few = subst (λ z. unsigned_abs z < 10 ^ 4) (sym p.is) (small_power p.negative p.size few.few);
+    }
+
+pub marked_some : (text rest : List ℕ) (b : ℕ) (found : Option ℤ) → text ≡ b ∷ rest
+    → (b ≡ 101) ⊎ (b ≡ 69) → IfSome found (SignedPower rest) → IfSome found (QuickPower text)
+marked_some text rest b None parts letter is = tt
+marked_some text rest b (Some power) parts letter is = marked_power text rest b power parts letter is
+
+-- the sample of what was found
+pub found_some : (negative : Bool) (text rest : List ℕ) (size places len : ℕ) (power : ℤ) (found : Option ℤ)
+    → BeginsQuick text size places len → rest ≡ take (length text - len) (drop len text)
+    → QuickPower rest power → found ≡ sample_of (signed negative size) (power -ℤ pos places)
+    → IfSome found (QuickValue negative text)
+found_some negative text rest size places len power None front rest_is p is = tt
+found_some negative text rest size places len power (Some z) front rest_is p is = record {
+  size = size;
+  places = places;
+  len = len;
+  power = power;
+  rest = rest;
+  parts = sym (take-append-drop len text) ∙ ap (λ t. take len text ++ t) (sym (rest_is ∙ take_rest text len));
+  mantissa = front.is;
+  exponent = p.is;
+  is = sym is;
+}
+
+-- the sample of a mantissa with its sign
+pub quick_is : (negative : Bool) (whole sign text : List ℕ) (z : ℤ) → whole ≡ sign ++ text
+    → IsSign negative sign → QuickValue negative text z → valued (number_reading whole) ≡ Ok (Some z)
+quick_is negative whole sign text z parts a_sign q =
+    let size = q.size in
+    let quick = q.mantissa in
+    let exponent : ℤ = q.power -ℤ pos q.places in
+    let number : IsNumber whole (spelling negative size exponent) = record {
+      sign = sign;
+      mantissa = take q.len text;
+      exponent = q.rest;
+      places = q.places;
+      power = q.power;
+      parts = parts ∙ ap (λ t. sign ++ t) q.parts;
+      a_sign = a_sign;
+      a_mantissa = quick.mantissa;
+      an_exponent = q.exponent;
+      exponent_is = refl;
+    } in
+    let few = quick.few in
+    let none = surplus-short size few in
+    let last : exponent +ℤ pos 0 ≡ exponent = omega (arith, ints) in
+    let value : sample_value (spelling negative size exponent) ≡ Some z =
+    rw (none, nearest-one size, last)
+    (sample_of_digits-sample_of negative size exponent (omega arith) ∙ q.is) in
+    ap valued (number_reading-number whole (spelling negative size exponent) number) ∙ ap Ok value
+
+pub quick_some : (negative : Bool) (whole sign text : List ℕ) (found : Option ℤ) → whole ≡ sign ++ text
+    → IsSign negative sign → IfSome found (QuickValue negative text)
+    → IfSome found (λ z. valued (number_reading whole) ≡ Ok (Some z))
+quick_some negative whole sign text None parts a_sign is = tt
+quick_some negative whole sign text (Some z) parts a_sign is =
+    quick_is negative whole sign text z parts a_sign is

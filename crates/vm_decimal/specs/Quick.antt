@@ -1,0 +1,52 @@
+-- What the fast way finds. Only inner contracts cite it.
+use Rattle.std.specs.Prelude.{◌≡◌, ℕ, ◌<◌, ◌≤◌, ◌^◌, ℤ, pos, ◌-ℤ◌, unsigned_abs, Bool, List, ◌++◌, length, take, Some}
+use Rattle.std.specs.Str.Parse.{digits_value}
+use Rattle.vm_base.specs.Number.{signed}
+use Rattle.vm_base.specs.Sample.{sample_of}
+use Rattle.vm_decimal.specs.Spelled.{IsDigits, IsSign, IsMantissa, IsOptionalExponent}
+
+-- a mantissa of at most 18 digits
+pub record IsQuick (text : List ℕ) (size places : ℕ) : Type 0 where
+  pub mantissa : IsMantissa text size places
+  pub few : size < 10 ^ 18
+  pub near : places ≤ 18
+
+-- the same at the front of a text
+pub record BeginsQuick (text : List ℕ) (size places len : ℕ) : Type 0 where
+  pub within : len ≤ length text
+  pub is : IsQuick (take len text) size places
+
+-- 1 to 4 digits
+pub record FewDigits (text : List ℕ) (size : ℕ) : Type 0 where
+  pub some : 0 < length text
+  pub all : IsDigits text
+  pub is : size ≡ digits_value 10 text
+  pub few : size < 10 ^ 4
+
+-- the same with a sign
+pub record SignedPower (text : List ℕ) (power : ℤ) : Type 0 where
+  pub sign : List ℕ
+  pub digits : List ℕ
+  pub negative : Bool
+  pub size : ℕ
+  pub parts : text ≡ sign ++ digits
+  pub a_sign : IsSign negative sign
+  pub are_few : FewDigits digits size
+  pub is : power ≡ signed negative size
+
+-- an exponent of these, or nothing
+pub record QuickPower (text : List ℕ) (power : ℤ) : Type 0 where
+  pub is : IsOptionalExponent text power
+  pub few : unsigned_abs power < 10 ^ 4
+
+-- a sample of these
+pub record QuickValue (negative : Bool) (text : List ℕ) (z : ℤ) : Type 0 where
+  pub size : ℕ
+  pub places : ℕ
+  pub len : ℕ
+  pub power : ℤ
+  pub rest : List ℕ
+  pub parts : text ≡ take len text ++ rest
+  pub mantissa : IsQuick (take len text) size places
+  pub exponent : IsOptionalExponent rest power
+  pub is : sample_of (signed negative size) (power -ℤ pos places) ≡ Some z
