@@ -1,0 +1,5 @@
+mod HeldLaws
+pub mod LineLaws
+mod LongLines
+pub mod ReadingLaws
+mod Steps

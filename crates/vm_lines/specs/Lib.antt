@@ -1,0 +1,5 @@
+pub mod Feeds
+pub mod Held
+pub mod Lines
+pub mod Reading
+pub mod Steps
