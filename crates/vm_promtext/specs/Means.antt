@@ -1,0 +1,29 @@
+-- What a line means, in the words of the grammar.
+use Rattle.std.specs.Prelude.{ℕ, ◌<◌, ◌≤◌, List, [], ◌∷◌, length, Option, Some, None}
+use Rattle.vm_base.specs.FirstWrong.{FirstWrong}
+use Rattle.vm_labels.specs.declared.row.Row.{Row as RowOf}
+use Rattle.vm_promtext.specs.Grammar.{Written, Writes, SaysNothing, IsLine}
+use Rattle.vm_promtext.specs.Outcome.{outcome}
+use Rattle.vm_promtext.specs.declared.line.Line.{Line}
+use Rattle.vm_promtext.specs.declared.line.Line.TheVariants.{Nothing, Row, NoNumber, Skipped}
+use Rattle.vm_promtext.specs.Reading.{reading}
+
+-- what a line of at most 4,194,304 bytes means that is read at the time `now`, and that a longer one
+-- is skipped
+pub data IsReading (now : ℕ) (line : List ℕ) : Line → Type 0 where
+  too_long : 4194304 < length line → IsReading now line (Skipped 4194304)
+  nothing : length line ≤ 4194304 → SaysNothing line → IsReading now line Nothing
+  broken : length line ≤ 4194304 → (at : ℕ) → FirstWrong IsLine line at
+      → IsReading now line (Skipped at)
+  written : length line ≤ 4194304 → (parts : Written) → Writes line parts
+      → IsReading now line (outcome now line parts)
+
+abbrev pub rows_of : Line → Option (List RowOf)
+rows_of Nothing = Some []
+rows_of (Row row) = Some (row ∷ [])
+rows_of NoNumber = Some []
+rows_of (Skipped at) = None
+
+-- the rows of a line that is read at the time `now`, none where it is skipped
+abbrev pub rows_of_line : ℕ → List ℕ → Option (List RowOf)
+rows_of_line now line = rows_of (reading now line)

@@ -1,0 +1,35 @@
+//! Why a step of the reader stops.
+
+ghost use Rattle.std.specs.Prelude.{◌≡◌};
+ghost use Rattle.vm_promtext.specs.declared.stop.Stop.TheVariants.{Memory, Broken};
+
+use std::alloc::AllocError;
+
+/// A line goes wrong where this many of its bytes are left.
+#[derive(Clone, Copy, Debug)]
+pub struct Wrong {
+    pub left: usize,
+}
+
+/// Why a step that takes memory stops.
+#[derive(Clone, Copy, Debug)]
+pub enum Stop {
+    Memory,
+    Broken(Wrong),
+}
+
+impl From<AllocError> for Stop {
+    ghost from_gives = { λ _ e. e ≡ Memory };
+
+    fn from(_e: AllocError) -> Stop {
+        Stop::Memory
+    }
+}
+
+impl From<Wrong> for Stop {
+    ghost from_gives = { λ wrong e. e ≡ Broken wrong };
+
+    fn from(wrong: Wrong) -> Stop {
+        Stop::Broken(wrong)
+    }
+}
