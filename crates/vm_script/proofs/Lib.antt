@@ -1,0 +1,6 @@
+mod ItemLaws
+mod NameLaws
+mod NumberLaws
+mod PrinterLaws
+mod SpelledLaws
+mod TextLaws
