@@ -1,0 +1,5 @@
+pub mod FoundLaws
+mod MapLaws
+mod RunLaws
+mod SeriesLaws
+mod ValueLaws

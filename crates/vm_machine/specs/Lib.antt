@@ -1,0 +1,7 @@
+pub mod Batches
+pub mod Eval
+pub mod Found
+pub mod InRange
+pub mod Machine
+pub mod Visible
+pub mod Window

@@ -1,0 +1,27 @@
+//! What a store means: a machine that keeps the batches that it accepted in one list.
+//!
+//! Read `specs/Machine.antt` first: the state of a machine, what can happen to it and what it answers.
+//! A query sees the rows that were accepted when its run was begun, by the definitions of
+//! `specs/Visible.antt`, `specs/Window.antt` and `specs/Eval.antt`. `Machine` is the plain program that
+//! does what they say, `Found` gathers an answer in one pass over rows, and `Batches` parts the rows of
+//! a body as `specs/Batches.antt` says.
+//!
+//! It stands on `vm_base` for samples and lists and on `vm_labels` for rows and selectors.
+#![tactic(auto)]
+
+mod batches;
+mod found;
+mod machine;
+mod question;
+mod refusal;
+mod run;
+#[cfg(test)]
+mod tests;
+mod window;
+
+pub use batches::Batches;
+pub use found::Found;
+pub use machine::Machine;
+pub use question::{Question, Valued};
+pub use refusal::Refusal;
+pub use run::Run;
