@@ -1,0 +1,3 @@
+pub mod Coding
+pub mod Integer
+pub mod Reading

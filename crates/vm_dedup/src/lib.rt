@@ -1,0 +1,18 @@
+//! Deduplication: of the samples of one interval the last one stays.
+//!
+//! Samples come one by one and in order, and those that stay come out in that order. An interval of
+//! d ms ends at each multiple of d, as VictoriaMetrics has it for `-dedup.minScrapeInterval`.
+//!
+//! Begin with `Dedup`. `thinned` of `vm_base` is what a list becomes, and `last_of_each_interval` says
+//! the same without walking the list: `specs/Intervals.antt` has its words.
+//!
+//! It stands on `vm_base` for `Stamped` and for `thinned`.
+#![tactic(auto)]
+
+mod dedup;
+mod laws;
+#[cfg(test)]
+mod tests;
+
+pub use dedup::Dedup;
+pub use laws::last_of_each_interval;
