@@ -1,11 +1,5 @@
-pub mod AnswerLaws
-pub mod DigitLaws
-pub mod HeldLaws
-pub mod LatestLaws
-pub mod LineLaws
-pub mod LongLines
-pub mod NameLaws
-pub mod NoteLaws
-pub mod PlainLaws
-pub mod ReadingLaws
-pub mod WordLaws
+mod InputLaws
+mod LastLaws
+mod NoteLaws
+mod ReplyLaws
+mod WordLaws

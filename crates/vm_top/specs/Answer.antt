@@ -1,20 +1,21 @@
--- What the program answers.
-use Rattle.std.specs.Prelude.{ℕ, List, Option}
-use Rattle.std.specs.Option.{option_map, option_and_then}
+-- The answer of `last NAME TIME`.
+use Rattle.std.specs.Prelude.{ℕ, List, [], ◌∷◌, codes}
+use Rattle.vm_labels.specs.declared.selector.FilterOp.TheVariants.{Equal}
+use Rattle.vm_labels.specs.declared.selector.Selector.{Selector}
+use Rattle.vm_lines.specs.Lines.{lines}
+use Rattle.vm_machine.specs.Eval.{eval}
+use Rattle.vm_machine.specs.declared.question.Question.{Question}
 use Rattle.vm_top.specs.Reply.{reply}
 use Rattle.vm_top.specs.Rows.{rows}
-use Rattle.vm_top.specs.Window.{visible, default_rollup}
-use Rattle.vm_top.specs.Words.{asked}
 
--- how far back an instant query looks for a sample, in ms
-abbrev pub lookback : ℕ
-lookback = 300000
+-- the series of a name
+abbrev pub named : List ℕ → Selector
+named name = record { lists = (record { name = codes "__name__"; op = Equal; value = name } ∷ []) ∷ [] }
 
--- the answer of `last NAME TIME` over an input, nothing where a line of it can't be read
-abbrev pub last_answer : List ℕ → ℕ → List ℕ → Option (List ℕ)
-last_answer name at input =
-    option_map (λ held. reply name at (default_rollup at lookback (visible name held))) (rows input)
+-- the instant query of a name at a time in ms
+abbrev pub question : List ℕ → ℕ → Question
+question name time = record { time = time; selector = named name }
 
--- the answer to a command line over an input
-abbrev pub answer : List (List ℕ) → List ℕ → Option (List ℕ)
-answer words input = option_and_then (λ q. last_answer q.0 q.1 input) (asked words)
+-- the reply to it over the rows of an input alone, whose lines are read at the time `now`
+abbrev pub last_answer : List ℕ → ℕ → ℕ → List ℕ → List ℕ
+last_answer name time now input = reply time (eval 0 (question name time) (rows now (lines input)))

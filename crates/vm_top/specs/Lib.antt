@@ -1,13 +1,8 @@
 pub mod Answer
-pub mod Digits
+pub mod Asked
 pub mod ExitCodes
-pub mod Feeds
-pub mod Held
-pub mod Latest
-pub mod Lines
-pub mod Name
+pub mod Reading
 pub mod Reply
 pub mod Rows
 pub mod Statuses
-pub mod Window
 pub mod Words

@@ -1,26 +1,29 @@
 -- The body of a reply. (VictoriaMetrics, "Prometheus querying API", `/api/v1/query`)
-use Rattle.std.specs.Prelude.{ℕ, ◌*◌, ◌^◌, ℤ, pos, List, [], ◌++◌, codes, Option, Some, None}
+use Rattle.std.specs.Prelude.{ℕ, ◌*◌, ◌^◌, ℤ, pos, List, ◌∷◌, ◌++◌, map, codes}
+use Rattle.std.specs.List.{join_with_byte}
 use Rattle.vm_decimal.specs.NumberText.{number_text}
+use Rattle.vm_labels.specs.Text.{label_json}
+use Rattle.vm_machine.specs.declared.question.Valued.{Valued}
 
 -- a time in seconds
 abbrev pub seconds : ℕ → List ℕ
 seconds ms = number_text (pos (ms * 10 ^ 997))
 
--- the label set of a name
-abbrev pub metric : List ℕ → List ℕ
-metric name = codes "{\"__name__\":\"" ++ name ++ codes "\"}"
-
 -- a value at a time
 abbrev pub point : ℕ → ℤ → List ℕ
 point at value = codes "[" ++ seconds at ++ codes ",\"" ++ number_text value ++ codes "\"]"
 
--- the series of a name with its value at a time, if it has one
-abbrev pub series : List ℕ → ℕ → Option ℤ → List ℕ
-series name at None = []
-series name at (Some value) =
-    codes "{\"metric\":" ++ metric name ++ codes ",\"value\":" ++ point at value ++ codes "}"
+-- a series with its value at a time
+abbrev pub series : ℕ → Valued → List ℕ
+series at valued =
+    codes "{\"metric\":" ++ label_json valued.labels ++ codes ",\"value\":" ++ point at valued.value ++ codes "}"
+
+-- a series behind another one
+abbrev pub next_series : ℕ → Valued → List ℕ
+next_series at valued = 44 ∷ series at valued
 
 -- the reply to an instant query, with a line feed behind it
-abbrev pub reply : List ℕ → ℕ → Option ℤ → List ℕ
-reply name at value =
-    codes "{\"status\":\"success\",\"data\":{\"resultType\":\"vector\",\"result\":[" ++ series name at value ++ codes "]}}\n"
+abbrev pub reply : ℕ → List Valued → List ℕ
+reply at values =
+    codes "{\"status\":\"success\",\"data\":{\"resultType\":\"vector\",\"result\":["
+    ++ join_with_byte 44 (map (series at) values) ++ codes "]}}\n"

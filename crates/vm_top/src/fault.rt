@@ -3,6 +3,7 @@
 use crate::status::Status;
 use std::alloc::AllocError;
 use thiserror::Error;
+use vm_lines::LineFault;
 
 /// Why a command did not do what was asked of it.
 #[derive(Clone, Copy, Debug, PartialEq, Eq, Error)]
@@ -10,9 +11,6 @@ pub enum Fault {
     /// The words are no command.
     #[error("usage")]
     Usage,
-    /// A line of the input isn't of the form that the program reads.
-    #[error("not built")]
-    NotBuilt,
     /// The input has 2^62 bytes and no end among them.
     #[error("input too long")]
     InputTooLong,
@@ -33,8 +31,23 @@ impl From<AllocError> for Fault {
 
     ghost from_gives = { λ _ fault. fault ≡ Memory };
 
-    fn from(_error: AllocError) -> Fault {
+    fn from(_: AllocError) -> Fault {
         Fault::Memory
+    }
+}
+
+impl From<LineFault> for Fault {
+    ghost use Rattle.std.specs.Prelude.{◌≡◌};
+    ghost use Rattle.vm_top.specs.Asked.{fault_of_lines};
+
+    ghost from_gives = { λ why fault. fault ≡ fault_of_lines why };
+
+    fn from(why: LineFault) -> Fault {
+        match why {
+            LineFault::Input => Fault::Input,
+            LineFault::InputTooLong => Fault::InputTooLong,
+            LineFault::Memory => Fault::Memory,
+        }
     }
 }
 
@@ -48,7 +61,6 @@ impl Fault {
     {
         match self {
             Fault::Usage => Status::Usage,
-            Fault::NotBuilt => Status::Refused,
             Fault::InputTooLong => Status::Refused,
             Fault::Input => Status::InputFault,
             Fault::Output => Status::OutputFault,

@@ -1,10 +1,9 @@
 //! The program's one call, with its theorem.
 
-ghost use Rattle.std.specs.Prelude.{◌≡◌, ◌≢◌, ◌↔◌, ◌⊎◌, ◌≤◌, ℕ, [], None, false, map, string_bytes};
+ghost use Rattle.std.specs.Prelude.{◌≡◌, ◌≢◌, ◌↔◌, ◌⊎◌, ◌≤◌, [], None, false, map, string_bytes};
 ghost use Rattle.std.specs.Option.{option_map};
-ghost use Rattle.vm_outside.specs.Clock.{Answers};
 ghost use Rattle.vm_outside.specs.Outside.{Rose, Told};
-ghost use Rattle.vm_top.specs.Statuses.{IsAnswered, IsAnsweredInPart, IsRefused, IsNoted};
+ghost use Rattle.vm_top.specs.Statuses.{IsDoneBy, IsTooLong, IsNoted};
 ghost use Rattle.vm_top.specs.Words.{asked};
 
 use crate::command::run;
@@ -15,10 +14,10 @@ use vm_outside::{Clock, Disk, Link, Patterns, Sink, Source};
 
 /// The program: does what the words of its command line ask for, over the objects that it is handed.
 ///
-/// `last NAME TIME` reads lines of a metric's name, a value and a time in ms, with a space between them,
-/// and prints the reply to the instant query NAME at TIME over these rows alone: the last sample of
-/// the series with this name in the 300,000 ms that end at TIME. `--` ends the options. Any other words
-/// are `Usage`.
+/// `last NAME TIME` reads lines of the Prometheus text format 0.0.4, and prints the reply to the instant
+/// query NAME at TIME over these rows alone: of each series with this name the last sample in the 300,000 ms
+/// that end at TIME. A line that goes wrong is skipped; a row without a time has that of the clock. `--` ends
+/// the options. Any other words are `Usage`.
 ///
 /// Where the status isn't `Ok`, a line `vmsingle: TEXT` is written to `notes`; it changes nothing where
 /// that fails. The command reads the clock once, before its input, and touches no disk, link or
@@ -36,33 +35,27 @@ pub fn run_words<S: Source, K: Sink, N: Sink, D: Disk, L: Link, C: Clock, P: Pat
 ) -> Status
     requires { L.present link.old ≡ false }
 
-    // The answer is the definition's, over the whole input.
-    ensures answered { result ≡ Status.Ok → Told (S.left input.old)
-        (IsAnswered (map string_bytes words.now) (K.taken output.old) (K.taken output.new)) }
+    // What the words ask for is done, by the definitions, over the whole input.
+    ensures done { IsDoneBy (asked (map string_bytes words.now)) result
+        (C.answers clock.old) (C.answers clock.new) (S.left input.old) (K.taken output.old) (K.taken output.new) }
     ensures read { result ≡ Status.Ok → S.left input.new ≡ option_map (λ _. []) (S.left input.old) }
 
     // When each other status comes, and what was written then.
     ensures usage { (result ≡ Status.Usage) ↔ (asked (map string_bytes words.now) ≡ None) }
-    ensures refused { result ≡ Status.Refused → Told (S.left input.old)
-        (IsRefused (map string_bytes words.now) (S.left input.new)) }
+    ensures refused { result ≡ Status.Refused → Told (S.left input.old) IsTooLong }
     ensures input_fault { result ≡ Status.InputFault →
         Rose (S.faults input.old) (S.faults input.new) }
     ensures output_fault { result ≡ Status.OutputFault →
         Rose (K.faults output.old) (K.faults output.new) }
-    ensures part { result ≡ Status.OutputFault → Told (S.left input.old)
-        (IsAnsweredInPart (map string_bytes words.now) (K.taken output.old) (K.taken output.new)) }
     ensures silent { result ≢ Status.Ok → result ≢ Status.OutputFault →
         K.taken output.new ≡ K.taken output.old }
     ensures others { (result ≡ Status.Ok) ⊎ (result ≡ Status.Usage) ⊎ (result ≡ Status.Refused)
         ⊎ (result ≡ Status.Memory) ⊎ (result ≡ Status.InputFault) ⊎ (result ≡ Status.OutputFault) }
-    ensures noted { IsNoted result (map string_bytes words.now) (S.left input.old)
+    ensures noted { IsNoted result (asked (map string_bytes words.now)) (S.left input.old)
         (N.taken notes.old) (N.taken notes.new) (N.faults notes.old) (N.faults notes.new) }
 
-    // What is read once, and what stays.
-    ensures clock { asked (map string_bytes words.now) ≢ None →
-        (now : ℕ) × Answers (C.answers clock.old) now (C.answers clock.new) }
-    ensures untouched { asked (map string_bytes words.now) ≡ None →
-        (S.left input.new ≡ S.left input.old) × (C.answers clock.new ≡ C.answers clock.old) }
+    // What stays.
+    ensures untouched { asked (map string_bytes words.now) ≡ None → S.left input.new ≡ S.left input.old }
     ensures disk { disk.new ≡ disk.old }
     ensures link { link.new ≡ link.old }
     ensures patterns { patterns.new ≡ patterns.old }

@@ -1,11 +1,15 @@
 //! Worked examples, by hand, of what no clause says: that answers come, and which.
 
-use crate::reading::read_latest;
-use crate::words::Question;
-use crate::{Status, plain_answer, run_words};
+use crate::last::{named, read_step};
+use crate::reply::reply;
+use crate::{Status, run_words};
 use std::alloc::{AllocError, Global};
 use std::test::Fail;
+use vm_base::limits::MAX_TIME;
+use vm_lines::Step;
+use vm_machine::{Batches, Machine, Question};
 use vm_outside::{MemClock, MemSink, MemSource, NoDisk, NoLink, NoPatterns};
+use vm_promtext::Line;
 
 /// What one run of the program left.
 #[derive(Drop)]
@@ -139,6 +143,39 @@ fn answers(rt: HostRuntime) -> Result<(), Fail> {
             "x -0.00000000000000001 10\n",
             "{\"metric\":{\"__name__\":\"x\"},\"value\":[0.01,\"-1e-17\"]}",
         ),
+        // lines of the format's description
+        ("last up 1000", "up 1 900 \n", ONE),
+        ("last up 1000", " up  1\t900\n", ONE),
+        ("last up 1000", "up{} 1 900\n", ONE),
+        ("last up 1000", "# HELP up\nup +1.0e0 900\n# EOF\n", ONE),
+        ("last up 1000", "up 1 000000000000000000900\n", ONE),
+        (
+            "last up 1700000000000",
+            "up 1\n",
+            "{\"metric\":{\"__name__\":\"up\"},\"value\":[1700000000,\"1\"]}",
+        ),
+        // lines that are skipped, and values that are no numbers
+        ("last up 1000", "up\nup 1 900\nup 3 -900\n9up 3 900\n", ONE),
+        ("last up 1000", "up 1 900\nup 3 900 1\nup NaN 950\n", ONE),
+        ("last up 1000", "up 3 281474976710656\nup 1e400 900\n", NONE),
+        ("last up 1000", "up 1 900\r\r\n", NONE),
+        // each series of the name, in the order of their labels
+        (
+            "last a 1000",
+            "a{j=\"y\"} 2 900\na{j=\"x\",i=\"\"} 1 900\nb{j=\"x\"} 3 900\na{i=\"q\\\"\"} 4 900\na{j=\"x\"} 5 800\n",
+            "{\"metric\":{\"__name__\":\"a\",\"i\":\"q\\\"\"},\"value\":[1,\"4\"]},{\"metric\":{\"__name__\":\"a\",\"j\":\"x\"},\"value\":[1,\"1\"]},{\"metric\":{\"__name__\":\"a\",\"j\":\"y\"},\"value\":[1,\"2\"]}",
+        ),
+        // a summary as a Go program exposes it
+        (
+            "last process_virtual_memory_max_bytes 1700000000000",
+            "# TYPE go_gc_duration_seconds summary\ngo_gc_duration_seconds{quantile=\"0\"} 2.7667e-05\nprocess_virtual_memory_max_bytes 1.8446744073709552e+19\n",
+            "{\"metric\":{\"__name__\":\"process_virtual_memory_max_bytes\"},\"value\":[1700000000,\"18446744073709552000\"]}",
+        ),
+        (
+            "last go_gc_duration_seconds 1700000000000",
+            "go_gc_duration_seconds{quantile=\"0\"} 2.7667e-05\ngo_gc_duration_seconds{quantile=\"1\"} NaN\n",
+            "{\"metric\":{\"__name__\":\"go_gc_duration_seconds\",\"quantile\":\"0\"},\"value\":[1700000000,\"0.000027667\"]}",
+        ),
     ] {
         let want = body(alloc, series)?;
         for most in [1, 7, usize::MAX] {
@@ -155,58 +192,33 @@ fn answers(rt: HostRuntime) -> Result<(), Fail> {
     Ok(())
 }
 
-/// Lines and words that are refused: nothing is printed, and the note says why.
+/// Words that are no command: nothing is printed, and the note says so.
 #[test]
-fn refusals(rt: HostRuntime) -> Result<(), Fail> {
+fn usage(rt: HostRuntime) -> Result<(), Fail> {
     let alloc = rt.alloc();
-    let usage = (Status::Usage, b"vmsingle: usage\n".as_slice());
-    let not_built = (Status::Refused, b"vmsingle: not built\n".as_slice());
-    for (words, input, want) in [
-        ("", "", usage),
-        ("frobnicate", "", usage),
-        ("last", "", usage),
-        ("last up", "", usage),
-        ("last up 1000 1", "", usage),
-        ("last up 10x0", "", usage),
-        ("last up 281474976710656", "", usage),
-        ("last up 000000000000000001000", "", usage),
-        ("last 9up 1000", "", usage),
-        ("last -up 1000", "", usage),
-        ("last -- -- up 1000", "", usage),
-        ("-- last up 1000", "", usage),
-        ("Last up 1000", "up 1 900\n", usage),
-        ("last up 1000", "up 1 900 \n", not_built),
-        ("last up 1000", "up  1 900\n", not_built),
-        ("last up 1000", " up 1 900\n", not_built),
-        ("last up 1000", "up\t1 900\n", not_built),
-        ("last up 1000", "up 1\n", not_built),
-        ("last up 1000", "up 1 \n", not_built),
-        ("last up 1000", "up\n", not_built),
-        ("last up 1000", "9up 1 900\n", not_built),
-        ("last up 1000", "up{} 1 900\n", not_built),
-        ("last up 1000", "# HELP up\n", not_built),
-        ("last up 1000", "up 1 -900\n", not_built),
-        ("last up 1000", "up +1 900\n", not_built),
-        ("last up 1000", "up 1e3 900\n", not_built),
-        ("last up 1000", "up 1.2.3 900\n", not_built),
-        ("last up 1000", "up - 900\n", not_built),
-        ("last up 1000", "up . 900\n", not_built),
-        ("last up 1000", "up 1234567890123456789 900\n", not_built),
-        ("last up 1000", "up 1 0000000000000900\n", not_built),
-        ("last up 1000", "up 1 281474976710656\n", not_built),
-        ("last up 1000", "up 1 900\r\r\n", not_built),
-        ("last up 1000", "up 1 900\ndown 1\nup 1 900\n", not_built),
+    for words in [
+        "",
+        "frobnicate",
+        "last",
+        "last up",
+        "last up 1000 1",
+        "last up 10x0",
+        "last up 281474976710656",
+        "last up 000000000000000001000",
+        "last 9up 1000",
+        "last -up 1000",
+        "last -- -- up 1000",
+        "-- last up 1000",
+        "Last up 1000",
     ] {
-        for most in [1, usize::MAX] {
-            let got = run_over(alloc, words, input.as_bytes(), most, NEVER, NEVER)?;
-            assert_eq!(rt; got.status, want.0, "{words} on {input:?} by {most}");
-            assert_eq!(rt;
-                got.notes.as_slice(),
-                want.1,
-                "{words} on {input:?} by {most}"
-            );
-            assert_eq!(rt; got.output.len(), 0, "{words} on {input:?} by {most}");
-        }
+        let got = run_over(alloc, words, b"up 1 900\n", usize::MAX, NEVER, NEVER)?;
+        assert_eq!(rt; got.status, Status::Usage, "{words}");
+        assert_eq!(rt;
+            got.notes.as_slice(),
+            b"vmsingle: usage\n".as_slice(),
+            "{words}"
+        );
+        assert_eq!(rt; got.output.len(), 0, "{words}");
     }
     Ok(())
 }
@@ -251,56 +263,75 @@ fn faults(rt: HostRuntime) -> Result<(), Fail> {
     Ok(())
 }
 
-/// The program that reads part by part finds what the plain one finds.
+/// What a machine answers that took the lines of an input as one batch.
+fn by_machine(alloc: Global, time: u64, input: &str) -> Result<Vec<u8>, Fail> {
+    let mut batches = Batches::new(alloc);
+    for line in input.split('\n') {
+        if let Line::Row(row) = read_step(alloc, Step::Line, line.as_bytes(), 900)? {
+            batches.add(alloc, row)?;
+        }
+    }
+    let mut machine = Machine::new(alloc);
+    for batch in batches.into_batches()?.into_vec() {
+        let _ = machine.import(batch);
+    }
+    let selector = named(alloc, "up")?;
+    if !machine.is_open(0) && time <= MAX_TIME {
+        let _ = machine.begin(alloc, 0, Question { time, selector });
+    }
+    match machine.end(alloc, 0) {
+        Ok((time, values)) => Ok(reply(alloc, time, values.as_slice())?),
+        Err(_) => Ok(Vec::new(alloc)),
+    }
+}
+
+/// The program that reads part by part answers what a machine of one list does.
 #[test]
-fn same_as_plain(rt: HostRuntime) -> Result<(), Fail> {
+fn same_as_machine(rt: HostRuntime) -> Result<(), Fail> {
     let alloc = rt.alloc();
     for input in [
         "",
-        "up 1 900\nup 2 900\r\n\ndown 9 950\nup 1.5 800\nup 7 1001",
-        "up 1 900\nup 2\n",
-        "up -1 700000\nup -1.5 700000\nup 4 1000001\nup 3 400001\n",
+        "up 1 900\nup 2 900\n\ndown 9 950\nup 1.5 800\nup 7 1001",
+        "up{b=\"2\"} 1 900\nup{a=\"1\"} 4 700\nup{b=\"2\"} 3 899\nup{a=\"1\"} 2 701",
     ] {
-        for time in [0, 899, 900, 1000, 700_000, 1_000_000] {
-            let question = Question { name: b"up", time };
-            let bytes = Vec::from_slice(alloc, input.as_bytes())?;
-            let mut source = MemSource::in_pieces(bytes, 5, Vec::new(alloc));
-            let found = read_latest(alloc, &question, &mut source)?;
-            let wanted = plain_answer(alloc, b"up", time, input.as_bytes())?;
-            assert!(rt; found == wanted, "{input:?} at {time}");
+        for (time, words) in [
+            (899, "last up 899"),
+            (900, "last up 900"),
+            (1000, "last up 1000"),
+        ] {
+            let got = run_over(alloc, words, input.as_bytes(), 5, NEVER, NEVER)?;
+            let want = by_machine(alloc, time, input)?;
+            assert_eq!(rt;
+                got.output.as_slice(),
+                want.as_slice(),
+                "{input:?} at {time}"
+            );
         }
     }
     Ok(())
 }
 
-/// A name of 4,096 bytes is read, and a longer one isn't; nor is a line that no piece holds whole. Many lines
-/// are read over the pieces' ends.
+/// A name of 4,096 bytes is read, and a longer one is skipped; lines are read over the pieces' ends.
 #[test]
 fn long_inputs(rt: HostRuntime) -> Result<(), Fail> {
     let alloc = rt.alloc();
-    let rows = "up 3 500\n";
-    for (name, count, want) in [
-        (4096, 1, Status::Ok),
-        (4097, 1, Status::Refused),
-        (70_000, 1, Status::Refused),
-        (200_000, 20_000, Status::Refused),
-        (2, 20_000, Status::Ok),
+    for (name, count) in [
+        (4096, 1),
+        (4097, 1),
+        (70_000, 1),
+        (200_000, 20_000),
+        (2, 20_000),
     ] {
         let mut input = vec![in alloc; b'a'; name]?;
         input.extend_from_slice(b" 1 900\n")?;
         for _ in 0..count {
-            input.extend_from_slice(rows.as_bytes())?;
+            input.extend_from_slice(b"up 3 500\n")?;
         }
         let got = run_over(alloc, "last up 1000", &input, usize::MAX, NEVER, NEVER)?;
-        assert_eq!(rt; got.status, want, "a name of {name} bytes");
-        let want = if want == Status::Ok {
-            body(alloc, THREE)?
-        } else {
-            String::new(alloc)
-        };
+        assert_eq!(rt; got.status, Status::Ok, "a name of {name} bytes");
         assert_eq!(rt;
             got.output.as_slice(),
-            want.as_bytes(),
+            body(alloc, THREE)?.as_bytes(),
             "a name of {name} bytes"
         );
     }

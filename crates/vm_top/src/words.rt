@@ -1,27 +1,26 @@
 //! The words of a command line.
 
-ghost use Rattle.std.specs.Prelude.{◌≡◌, ◌<◌, ◌^◌, ◌++◌, IfSome, map, string_bytes, codes};
+ghost use Rattle.std.specs.Prelude.{◌≡◌, ◌<◌, ◌^◌, ◌++◌, ◌∷◌, [], IfSome, map, string_bytes, codes};
 ghost use Rattle.std.specs.Option.{option_map};
 ghost use Rattle.std.specs.Str.{bytes_eq};
-ghost use Rattle.vm_top.specs.Words.{asked, asked_of, positional, question};
+ghost use Rattle.vm_top.specs.Asked.{task_of, IsSmall};
+ghost use Rattle.vm_top.specs.Words.{asked, last_of, positional, time_of};
 
-use crate::digits::time_of;
-use crate::name::is_name;
+use vm_base::limits::MAX_TIME;
+use vm_labels::is_name;
+use vm_script::read_number;
 
-/// How many digits a number of the command line has at most.
-const NUMBER_DIGITS: usize = 20;
-
-/// What `last NAME TIME` asks for: the metric's name, and the time in ms since the Unix epoch.
+/// What a command line asks for.
 #[derive(Clone, Copy, Debug)]
-pub struct Question<'a> {
-    pub name: &'a [u8],
-    pub time: u64,
+pub enum Task<'a> {
+    /// `last NAME TIME`: a metric's name, and a time in ms since the Unix epoch.
+    Last { name: &'a str, time: u64 },
 }
 
 /// Reads the words of a command line. None where they are no command.
-pub fn asked(words: &[String]) -> Option<Question<'_>>
-    ensures value { option_map (λ q. (q.name.now, q.time)) result ≡ asked (map string_bytes words.now) }
-    ensures small { IfSome result (λ q. q.time < 2 ^ 48) }
+pub fn asked(words: &[String]) -> Option<Task<'_>>
+    ensures value { option_map task_of result ≡ asked (map string_bytes words.now) }
+    ensures small { IfSome result IsSmall }
 {
     let [command, rest @ ..] = words else {
         return None;
@@ -30,7 +29,7 @@ pub fn asked(words: &[String]) -> Option<Question<'_>>
         return None;
     }
     let (before, after) = positional(rest);
-    name_then_time(before, after)
+    last_of(before, after)
 }
 
 /// The words before the first `--` and those after it.
@@ -46,10 +45,16 @@ fn positional(words: &[String]) -> (&[String], &[String])
     (words, &[])
 }
 
-fn name_then_time<'a>(before: &'a [String], after: &'a [String]) -> Option<Question<'a>>
-    ensures value { option_map (λ q. (q.name.now, q.time)) result
-        ≡ question (map string_bytes before.now ++ map string_bytes after.now) }
-    ensures small { IfSome result (λ q. q.time < 2 ^ 48) }
+fn ends_options(word: &String) -> bool
+    ensures { result ≡ bytes_eq (string_bytes word.now) (codes "--") }
+{
+    word.as_str() == "--"
+}
+
+fn last_of<'a>(before: &'a [String], after: &'a [String]) -> Option<Task<'a>>
+    ensures value { option_map task_of result
+        ≡ last_of (map string_bytes before.now ++ map string_bytes after.now) }
+    ensures small { IfSome result IsSmall }
 {
     match before {
         [] => match after {
@@ -71,23 +76,24 @@ fn name_then_time<'a>(before: &'a [String], after: &'a [String]) -> Option<Quest
     }
 }
 
-fn ends_options(word: &String) -> bool
-    ensures { result ≡ bytes_eq (string_bytes word.now) (codes "--") }
-{
-    word.as_str() == "--"
-}
-
-fn name_and_time<'a>(name: &'a String, time: &String) -> Option<Question<'a>>
-    ensures value { option_map (λ q. (q.name.now, q.time)) result
-        ≡ asked_of (string_bytes name.now) (string_bytes time.now) }
-    ensures small { IfSome result (λ q. q.time < 2 ^ 48) }
+fn name_and_time<'a>(name: &'a String, time: &String) -> Option<Task<'a>>
+    ensures value { option_map task_of result
+        ≡ last_of (string_bytes name.now ∷ string_bytes time.now ∷ []) }
+    ensures small { IfSome result IsSmall }
 {
     if !is_name(name.as_bytes()) {
         return None;
     }
-    let time = time_of(NUMBER_DIGITS, time.as_bytes())?;
-    Some(Question {
-        name: name.as_bytes(),
+    let time = time_of(time)?;
+    Some(Task::Last {
+        name: name.as_str(),
         time,
     })
+}
+
+fn time_of(word: &String) -> Option<u64>
+    ensures value { result ≡ time_of (string_bytes word.now) }
+    ensures small { IfSome result (λ time. time < 2 ^ 48) }
+{
+    read_number(word.as_bytes()).filter(|time| *time <= MAX_TIME)
 }

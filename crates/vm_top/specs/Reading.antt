@@ -1,0 +1,50 @@
+-- An input that is read line by line: words of inner contracts, which the theorem doesn't cite.
+use Rattle.std.specs.Prelude.{◌≡◌, ℕ, ◌+◌, ◌<◌, ◌^◌, true, List, [], length, Option, Some, None}
+use Rattle.vm_lines.specs.Lines.{is_too_long}
+use Rattle.vm_lines.specs.Reading.{Reading, rest, to_go, IsFirstLine, IsSpent}
+use Rattle.vm_lines.specs.declared.step.Step.{Step}
+use Rattle.vm_lines.specs.declared.step.Step.TheVariants.{Line, TooLong, End}
+use Rattle.vm_outside.specs.Outside.{Gives}
+
+-- what contracts see of the lines of an input: the reader, and how many lines were read
+pub record Place : Type 0 where
+  pub reading : Reading
+  pub number : ℕ
+
+-- what is still to be read
+abbrev pub unread : Place → Option (List ℕ) → Option (List ℕ)
+unread place left = rest place.reading left
+
+-- more bytes may have been taken, and each was counted
+pub record Takes (before after : Place) (left_before left_after : Option (List ℕ)) : Type 0 where
+  pub piece : List ℕ
+  pub gives : Gives left_before piece left_after
+  pub counted : after.reading.taken ≡ before.reading.taken + length piece
+
+-- the line that was come to: the one that is shown, or one that is too long to be shown
+abbrev pub IsLineOf : Step → List ℕ → List ℕ → Type 0
+IsLineOf Line shown line = line ≡ shown
+IsLineOf TooLong shown line = is_too_long line ≡ true
+IsLineOf End shown line = ⊥
+
+-- the next line was come to
+pub record HasLine (step : Step) (before after : Place) (left_before left_after : Option (List ℕ)) : Type 0 where
+  pub line : List ℕ
+  pub is : IsLineOf step after.reading.line line
+  pub first : IsFirstLine (unread before left_before) line (unread after left_after)
+  pub counted : after.number ≡ before.number + 1
+  pub nearer : to_go after.reading < to_go before.reading
+
+-- the input's end was come to
+pub record IsAtEnd (before after : Place) (left_before left_after : Option (List ℕ)) : Type 0 where
+  pub end : IsSpent (unread before left_before)
+  pub spent : IsSpent left_after
+  pub few : after.reading.taken < 2 ^ 62
+
+abbrev pub Comes : Option Step → Place → Place → Option (List ℕ) → Option (List ℕ) → Type 0
+Comes None before after left_before left_after = IsAtEnd before after left_before left_after
+Comes (Some step) before after left_before left_after = HasLine step before after left_before left_after
+
+-- a place of which nothing was read
+abbrev pub first_place : Place
+first_place = record { reading = record { line = []; ahead = []; taken = 0 }; number = 0 }
