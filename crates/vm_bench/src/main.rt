@@ -1,0 +1,70 @@
+//! What a benchmark calls and the program doesn't: one call, many times, over the bytes of standard input.
+//!
+//! `promtext ROUNDS` reads each line by `vm_promtext::read_line`, and prints how many rows there were and how
+//! many lines were skipped. `copy ROUNDS` copies all bytes to another place in memory, which is the yardstick, and
+//! prints how many it copied. With 0 rounds they take the time of reading the input. The scripts of `bench/`
+//! take the times.
+#![tactic(auto)]
+
+use anyhow::{Result, bail};
+use std::alloc::Global;
+use std::env;
+use std::io::Read;
+use vm_promtext::{Line, read_line};
+
+/// The time of lines without one, in ms.
+const NOW: u64 = 1_700_000_000_000;
+
+fn main(rt: HostRuntime) -> Result<()> {
+    let alloc = rt.alloc();
+    let mut input = Vec::new(alloc);
+    rt.stdin().read_to_end(&mut input)?;
+    let mut words = Vec::new(alloc);
+    for word in env::args(&rt)?.skip(1) {
+        words.push(word)?;
+    }
+    let [name, rounds] = words.as_slice() else {
+        bail!("usage");
+    };
+    let rounds = rounds.parse::<u32>()?;
+    match name.as_str() {
+        "promtext" => {
+            let (rows, skipped) = read_lines(alloc, &input, rounds)?;
+            println!(rt; "rows {rows} skipped {skipped}")?;
+        }
+        "copy" => {
+            let bytes = copy(alloc, &input, rounds)?;
+            println!(rt; "bytes {bytes}")?;
+        }
+        _ => bail!("usage"),
+    }
+    Ok(())
+}
+
+/// How many rows the lines hold, and how many lines are skipped, in all rounds.
+fn read_lines(alloc: Global, input: &[u8], rounds: u32) -> Result<(u64, u64)> {
+    let mut rows = 0u64;
+    let mut skipped = 0u64;
+    for _round in 0..rounds {
+        for line in input.split(|byte| *byte == b'\n') {
+            match read_line(alloc, line, NOW)? {
+                Line::Row(_) => rows = rows.saturating_add(1),
+                Line::Skipped { at: _ } => skipped = skipped.saturating_add(1),
+                Line::Nothing | Line::NoNumber => {}
+            }
+        }
+    }
+    Ok((rows, skipped))
+}
+
+/// How many bytes were copied in all rounds.
+fn copy(alloc: Global, input: &[u8], rounds: u32) -> Result<u64> {
+    let mut place = Vec::with_capacity(alloc, input.len())?;
+    let mut copied = 0u64;
+    for _round in 0..rounds {
+        place.clear();
+        place.extend_from_slice(input)?;
+        copied = copied.saturating_add(place.len() as u64);
+    }
+    Ok(copied)
+}
