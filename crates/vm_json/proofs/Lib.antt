@@ -1,0 +1,6 @@
+mod Accepts
+mod Grammars
+mod Nestings
+mod Places
+mod Symbols
+pub mod Texts
