@@ -1,5 +1,9 @@
+pub mod Decs
+pub mod DecForms
 pub mod NumberReadings
 mod NumberTexts
+mod Orders
+mod Products
 mod QuickDigits
 mod ReadNumbers
 mod Readers
@@ -8,5 +12,7 @@ pub mod SampleDigits
 mod SampleForms
 pub mod SampleReadings
 pub mod SampleTexts
+mod Sizes
 mod Spellings
+mod Sums
 mod WordLaws

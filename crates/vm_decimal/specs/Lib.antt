@@ -1,7 +1,9 @@
+pub mod Arithmetic
 pub mod Dec
 pub mod Leading
 pub mod NumberMachine
 pub mod NumberText
+pub mod Parts
 pub mod Quick
 pub mod Reader
 pub mod Rounded

@@ -1,10 +1,32 @@
-ghost use Rattle.std.specs.Prelude.{◌≡◌, pos, negsuc, ◌+ℤ◌, ◌≤ℤ◌, ◌++◌, OnOk, OnErr};
+ghost use Rattle.std.specs.Prelude.{◌≡◌, ◌%◌, ◌<◌, ◌≤◌, ◌^◌, Some, pos, negsuc, ◌+ℤ◌, ◌-ℤ◌, ◌≤ℤ◌, ◌++◌, unsigned_abs, OnOk, OnErr};
+ghost use Rattle.vm_base.specs.Number.{signed, number};
+ghost use Rattle.vm_base.specs.Sample.{mantissa as mantissa_of, exponent};
+ghost use Rattle.vm_decimal.specs.Dec.{dec_of, in_range, as_sample};
+ghost use Rattle.vm_decimal.specs.Parts.{placed as number_placed, value, IsBare};
 ghost use Rattle.vm_decimal.specs.NumberText.{number_text};
 
 use crate::number_text::number_text;
+use crate::parts::{Parts, without_noughts};
+use crate::reader::mantissa;
 use std::alloc::AllocError;
 use std::marker::Model;
 use vm_base::Sample;
+
+/// 10^38, which is above each size.
+pub(crate) const SIZES: u128 = 100_000_000_000_000_000_000_000_000_000_000_000_000;
+
+/// 10^18, which is above each size of a sample.
+const SAMPLE_SIZES: u128 = 1_000_000_000_000_000_000;
+
+/// The shift of a number whose last digit counts ones.
+const ONES: i32 = 1000;
+
+/// The greatest shift.
+const GREATEST: i32 = 2000;
+
+/// A number that has more than 38 digits, or an exponent outside -1000 to 1000.
+#[derive(Clone, Copy, Debug, PartialEq, Eq)]
+pub struct Range;
 
 /// A decimal number of at most 38 digits whose exponent of ten lies from -1000 to 1000 in normal
 /// form.
@@ -14,10 +36,10 @@ use vm_base::Sample;
 #[derive(Clone, Copy, Debug)]
 pub struct Dec {
     /// The digits as a number.
-    size: u128,
+    pub(crate) size: u128,
     /// 1000 above the exponent of ten of the last digit.
-    shift: u16,
-    negative: bool,
+    pub(crate) shift: u16,
+    pub(crate) negative: bool,
 }
 
 impl Model for Dec {
@@ -38,6 +60,47 @@ impl Model for Dec {
 }
 
 impl Dec {
+    /// 0.
+    pub const ZERO: Dec = Dec {
+        size: 0,
+        shift: 1000,
+        negative: false,
+    };
+
+    /// `m * 10^e`, none exactly where that number has more than 38 digits or an exponent outside -1000
+    /// to 1000 in normal form.
+    pub fn of(m: i128, e: i16) -> Option<Dec>
+        ensures { result ≡ dec_of m e }
+    {
+        placed(m < 0, m.unsigned_abs(), i32::from(e) + ONES)
+    }
+
+    /// The mantissa and the exponent of ten in normal form: the mantissa doesn't end with 0, and zero
+    /// is 0 with the exponent 0.
+    pub fn parts(self) -> (i128, i16)
+        ensures mantissa { result.0 ≡ mantissa_of self }
+        ensures exponent { result.1 ≡ exponent self }
+        ensures few { unsigned_abs result.0 < 10 ^ 38 }
+        ensures low { negsuc 999 ≤ℤ result.1 }
+        ensures high { result.1 ≤ℤ pos 1000 }
+        ensures whole { dec_of result.0 result.1 ≡ Some self }
+    {
+        (with_sign(self.negative, self.size), exponent_of(self.shift))
+    }
+
+    /// The sign, the size and the shift.
+    #[inline]
+    pub(crate) fn in_parts(self) -> Parts
+        ensures value { value result ≡ self }
+        ensures bare { IsBare result.size result.shift }
+    {
+        Parts {
+            negative: self.negative,
+            size: self.size,
+            shift: self.shift,
+        }
+    }
+
     /// The number of a sample.
     pub fn of_sample(sample: Sample) -> Dec
         ensures { result ≡ sample }
@@ -48,6 +111,17 @@ impl Dec {
             shift: shift_of(sample.e()),
             negative: m < 0,
         }
+    }
+
+    /// The sample of this number, none exactly where it has more than 18 digits or an exponent outside
+    /// -350 to 350 in normal form.
+    pub fn to_sample(self) -> Option<Sample>
+        ensures { result ≡ as_sample self }
+    {
+        if self.size >= SAMPLE_SIZES {
+            return None;
+        }
+        sample_at(self.negative, self.size as u64, self.shift)
     }
 
     /// Appends the number's text to `out`, which stays as it was where memory runs out.
@@ -62,6 +136,48 @@ impl Dec {
     }
 }
 
+/// `size * 10^(shift - 1000)` or that below zero, none where it is out of range.
+pub(crate) fn placed(negative: bool, size: u128, shift: i32) -> Option<Dec>
+    requires near { unsigned_abs shift < 10 ^ 6 }
+    ensures { result ≡ dec_of (signed negative size) (shift -ℤ pos 1000) }
+{
+    if size == 0 {
+        return Some(Dec::ZERO);
+    }
+    let (size, noughts) = without_noughts(size);
+    in_form(negative, size, shift_behind(shift, noughts))
+}
+
+/// The same of a shift that isn't below 0.
+pub(crate) fn placed_up(negative: bool, size: u128, shift: u16) -> Option<Dec>
+    ensures { result ≡ in_range (number negative size shift) }
+{
+    placed(negative, size, i32::from(shift))
+}
+
+/// The same of a size that doesn't end with 0.
+pub(crate) fn in_form(negative: bool, size: u128, shift: i32) -> Option<Dec>
+    requires { size % 10 ≡ 0 → ⊥ }
+    ensures { result ≡ number_placed negative size shift }
+{
+    if size >= SIZES || shift < 0 || shift > GREATEST {
+        return None;
+    }
+    Some(Dec {
+        size,
+        shift: shift as u16,
+        negative,
+    })
+}
+
+/// The shift behind so many noughts.
+fn shift_behind(shift: i32, noughts: u16) -> i32
+    requires near { unsigned_abs shift < 10 ^ 6 }
+    ensures { result ≡ shift +ℤ pos noughts }
+{
+    shift + i32::from(noughts)
+}
+
 /// The shift of a number whose last digit counts `10^e`.
 fn shift_of(e: i16) -> u16
     requires low { negsuc 349 ≤ℤ e }
@@ -69,4 +185,32 @@ fn shift_of(e: i16) -> u16
     ensures { pos result ≡ e +ℤ pos 1000 }
 {
     (e + 1000) as u16
+}
+
+fn with_sign(negative: bool, size: u128) -> i128
+    requires { size < 10 ^ 38 }
+    ensures { result ≡ signed negative size }
+{
+    if negative {
+        -(size as i128)
+    } else {
+        size as i128
+    }
+}
+
+/// The exponent of ten of a number's last digit.
+fn exponent_of(shift: u16) -> i16
+    requires { shift ≤ 2000 }
+    ensures { result ≡ pos shift -ℤ pos 1000 }
+{
+    shift as i16 - ONES as i16
+}
+
+/// The sample `size * 10^(shift - 1000)`, or that below zero.
+fn sample_at(negative: bool, size: u64, shift: u16) -> Option<Sample>
+    requires few { size < 10 ^ 18 }
+    requires high { shift ≤ 2000 }
+    ensures { result ≡ as_sample (number negative size shift) }
+{
+    Sample::of(mantissa(negative, size), exponent_of(shift))
 }

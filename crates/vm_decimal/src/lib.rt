@@ -13,18 +13,24 @@
 //! and on `arrayvec` for a text of bounded length.
 #![tactic(auto)]
 
+#[cfg(test)]
+mod arithmetic_tests;
 mod dec;
 mod leading;
 mod number_machine;
 mod number_text;
+mod order;
+mod parts;
+mod product;
 mod quick;
 mod reader;
 mod sample_text;
 #[cfg(test)]
 mod sample_text_tests;
+mod sum;
 #[cfg(test)]
 mod tests;
 mod words;
 
-pub use dec::Dec;
+pub use dec::{Dec, Range};
 pub use sample_text::{NumFault, SampleText, read_sample};

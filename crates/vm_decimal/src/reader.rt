@@ -149,7 +149,7 @@ fn sample_at(negative: bool, size: u64, exponent: i128) -> Option<Sample>
     Sample::of(mantissa(negative, size), exponent as i16)
 }
 
-fn mantissa(negative: bool, size: u64) -> i64
+pub(crate) fn mantissa(negative: bool, size: u64) -> i64
     requires { size ≤ 10 ^ 18 }
     ensures { result ≡ signed negative size }
 {

@@ -1,0 +1,97 @@
+-- The order of numbers by their fields.
+use mathlib.Core.Bool.{beq}
+use Rattle.std.proofs.Common.{◌≡◌, ℕ, zero, suc, ◌-◌, ◌*◌, ◌^◌, ◌<◌, ◌≤◌, ◌==◌, ℤ, pos, neg_ℤ, Bool, true, false, Less, Greater, refl, ap, sym, ◌∙◌, ⊎_elim, arith, pow-add}
+use Rattle.std.proofs.Math.Nat.{one-le-mul, mul-lt-mul_of_pos_right, mul_assoc}
+use Rattle.std.proofs.lemmas.Bool.{cases_eq, cases_order}
+use Rattle.std.proofs.lemmas.Bool.Decides.{nat_tests, Decides-int_eq}
+use Rattle.std.specs.Ordering.{nat_cmp, int_eq, int_cmp}
+use Rattle.vm_base.specs.Form.{ten_pos}
+use Rattle.vm_base.specs.Number.{number, form_of}
+use Rattle.vm_decimal.specs.declared.dec.Dec.TheInside.{Inside}
+use Rattle.vm_decimal.proofs.DecForms.{InForm, Is, form_of-dec}
+
+-- a size with noughts after it that passes 128 bits is above each other
+pub above : (size gap other : ℕ) → 2 ^ 128 ≤ size * 10 ^ gap → other < 10 ^ 38
+    → Greater ≡ nat_cmp (size * 10 ^ gap) other
+above size gap other wide few =
+    let more : other < size * 10 ^ gap = omega arith in
+    grind (arith, nat_tests)
+
+-- a factor of both sides counts for nothing
+same_factor : (one two by : ℕ) → 0 < by → nat_cmp (one * by) (two * by) ≡ nat_cmp one two
+same_factor one two by some =
+    ⊎_elim
+    (λ h. rw h (grind (arith, nat_tests)))
+    (⊎_elim
+    (λ h.
+    let less : one * by < two * by = mul-lt-mul_of_pos_right h some in
+    grind (arith, nat_tests))
+    (λ h.
+    let greater : two * by < one * by = mul-lt-mul_of_pos_right h some in
+    grind (arith, nat_tests)))
+    (cases_order one two)
+
+pub same_shift : (one two shift other : ℕ) → shift ≡ other
+    → nat_cmp one two ≡ nat_cmp (one * 10 ^ shift) (two * 10 ^ other)
+same_shift one two shift other is =
+    rw (← is) (sym (same_factor one two (10 ^ shift) (ten_pos shift)))
+
+pub higher_shift : (one two high low : ℕ) → low ≤ high
+    → nat_cmp (one * 10 ^ (high - low)) two ≡ nat_cmp (one * 10 ^ high) (two * 10 ^ low)
+higher_shift one two high low over =
+    let raised = one * 10 ^ (high - low) in
+    let shifts : 10 ^ (high - low) * 10 ^ low ≡ 10 ^ high =
+    sym (pow-add 10 (high - low) low) ∙ ap (λ n. 10 ^ n) (omega arith) in
+    let whole : raised * 10 ^ low ≡ one * 10 ^ high =
+    mul_assoc one (10 ^ (high - low)) (10 ^ low) ∙ ap (λ n. one * n) shifts in
+    sym (same_factor raised two (10 ^ low) (ten_pos low)) ∙ ap (λ n. nat_cmp n (two * 10 ^ low)) whole
+
+-- equal numbers have equal fields
+pub unlike : (s o : Inside) (y z : ℤ) → InForm s → InForm o → Is s y → Is o z
+    → (s.negative ≡ o.negative → s.size ≡ o.size → s.shift ≡ o.shift → ⊥) → false ≡ int_eq y z
+unlike s o y z form other is_y is_z differ =
+    let apart : y ≡ z → ⊥ = λ h.
+    let forms =
+    sym (form_of-dec s.negative s.size s.shift form) ∙ ap form_of (is_y ∙ h ∙ sym is_z)
+    ∙ form_of-dec o.negative o.size o.shift other in
+    differ (ap (λ f. f.negative) forms) (ap (λ f. f.size) forms) (ap (λ f. f.shift) forms) in
+    grind (arith, Decides-int_eq y z)
+
+pub alike : (s o : Inside) (y z : ℤ) → InForm s → InForm o → Is s y → Is o z
+    → s.negative ≡ o.negative → s.size ≡ o.size → (s.shift == o.shift) ≡ int_eq y z
+alike s o y z form other is_y is_z signs sizes =
+    ⊎_elim
+    (λ shifts.
+    let parts : number s.negative s.size s.shift ≡ number o.negative o.size o.shift = cc in
+    let same : y ≡ z = sym is_y ∙ parts ∙ is_z in
+    grind (arith, nat_tests, Decides-int_eq y z))
+    (λ differ.
+    let apart : (s.shift == o.shift) ≡ false = grind (arith, nat_tests) in
+    apart ∙ unlike s o y z form other is_y is_z (λ _ _ h. differ h))
+    (cases_eq s.shift o.shift)
+
+pub same_sign : (a b : Bool) → beq a b ≡ true → a ≡ b
+same_sign true true h = refl
+same_sign false false h = refl
+same_sign true false h = sym h
+same_sign false true h = h
+
+pub other_sign : (a b : Bool) → beq a b ≡ false → a ≡ b → ⊥
+other_sign true true h is = cc
+other_sign false false h is = cc
+other_sign true false h is = cc
+other_sign false true h is = cc
+
+-- a number below zero stands before one that isn't
+opposite : (n m : ℕ) → 0 < n
+    → (Less ≡ int_cmp (neg_ℤ (pos n)) (pos m)) × (Greater ≡ int_cmp (pos m) (neg_ℤ (pos n)))
+opposite zero m some = absurd (omega arith)
+opposite (suc n) m some = (refl, refl)
+
+pub below_zero : (s o : Inside) (y z : ℤ) → InForm s → Is s y → Is o z
+    → s.negative ≡ true → o.negative ≡ false → (Less ≡ int_cmp y z) × (Greater ≡ int_cmp z y)
+below_zero s o y z form is_y is_z minus plus =
+    let some : 0 < s.size =
+    ⊎_elim (λ none. absurd (cc (minus, form.plus none))) (λ h. omega arith) (cases_eq s.size 0) in
+    let whole = one-le-mul {a = s.size} some (ten_pos s.shift) in
+    rw (← is_y, ← is_z, minus, plus) (opposite (s.size * 10 ^ s.shift) (o.size * 10 ^ o.shift) whole)

@@ -1,0 +1,102 @@
+//! Sums and differences.
+ghost use Rattle.std.specs.Prelude.{◌≡◌, ℤ, ◌+◌, ◌*◌, ◌^◌, ◌<◌, ◌+ℤ◌, ◌-ℤ◌};
+ghost use Rattle.std.specs.Result.{result_ok};
+ghost use Rattle.vm_base.specs.Number.{signed};
+ghost use Rattle.vm_decimal.specs.Dec.{in_range};
+ghost use Rattle.vm_decimal.specs.Parts.{IsBare, value};
+
+use crate::dec::{Dec, Range, SIZES, in_form, placed_up};
+use crate::parts::{Parts, raised};
+
+/// A size from which on a number of at most 38 digits doesn't bring another back below 10^38.
+const FAR: u128 = 2 * SIZES;
+
+impl Dec {
+    /// The sum, exact. `Range` comes exactly where it is out of range.
+    pub fn add(self, other: Dec) -> Result<Dec, Range>
+        ensures { result_ok result ≡ in_range (self +ℤ other) }
+    {
+        sum(self.in_parts(), other.in_parts()).ok_or(Range)
+    }
+
+    /// The difference, exact. `Range` comes exactly where it is out of range.
+    pub fn sub(self, other: Dec) -> Result<Dec, Range>
+        ensures { result_ok result ≡ in_range (self -ℤ other) }
+    {
+        sum(self.in_parts(), opposite(other.in_parts())).ok_or(Range)
+    }
+}
+
+fn opposite(parts: Parts) -> Parts
+    requires { IsBare parts.size parts.shift }
+    ensures value { (z : ℤ) → z +ℤ value result ≡ z -ℤ value parts }
+    ensures bare { IsBare result.size result.shift }
+{
+    Parts {
+        negative: !parts.negative,
+        size: parts.size,
+        shift: parts.shift,
+    }
+}
+
+/// The sum, none where it is out of range.
+fn sum(one: Parts, two: Parts) -> Option<Dec>
+    requires one { IsBare one.size one.shift }
+    requires two { IsBare two.size two.shift }
+    ensures { result ≡ in_range (value one +ℤ value two) }
+{
+    if one.shift == two.shift {
+        return level_sum(one, two);
+    }
+    if one.shift < two.shift {
+        return uneven_sum(two, one);
+    }
+    uneven_sum(one, two)
+}
+
+/// The sum of two numbers whose last digits count the same.
+fn level_sum(one: Parts, two: Parts) -> Option<Dec>
+    requires one { IsBare one.size one.shift }
+    requires two { IsBare two.size two.shift }
+    requires level { one.shift ≡ two.shift }
+    ensures { result ≡ in_range (value one +ℤ value two) }
+{
+    let (negative, size) = signed_sum(one.negative, one.size, two.negative, two.size);
+    placed_up(negative, size, one.shift)
+}
+
+/// The sum of two numbers of which the first one's last digit counts more. It ends with the last digit
+/// of the second, so no nought has to go.
+fn uneven_sum(high: Parts, low: Parts) -> Option<Dec>
+    requires high { IsBare high.size high.shift }
+    requires low { IsBare low.size low.shift }
+    requires above { low.shift < high.shift }
+    ensures { result ≡ in_range (value high +ℤ value low) }
+{
+    if low.size == 0 {
+        return placed_up(high.negative, high.size, high.shift);
+    }
+    let Some(size) = raised(high.size, high.shift - low.shift) else {
+        return None;
+    };
+    if size >= FAR {
+        return None;
+    }
+    let (negative, size) = signed_sum(high.negative, size, low.negative, low.size);
+    in_form(negative, size, i32::from(low.shift))
+}
+
+/// The sign and the size of the sum of two numbers with these.
+#[inline]
+fn signed_sum(one: bool, first: u128, two: bool, second: u128) -> (bool, u128)
+    requires { first + second < 2 ^ 128 }
+    ensures { signed result.0 result.1 ≡ signed one first +ℤ signed two second }
+{
+    if one == two {
+        return (one, first + second);
+    }
+    if first < second {
+        return (two, second - first);
+    }
+    (one, first - second)
+}
