@@ -1,3 +1,4 @@
+pub mod BatchLaws
 pub mod FoundLaws
 mod MapLaws
 mod RunLaws

@@ -1,8 +1,8 @@
 //! The rows of a body, parted into batches.
 
-ghost use Rattle.std.specs.Prelude.{◌≡◌, [], ◌∷◌, ◌++◌, List as ListOf, IfOk, OnOk};
+ghost use Rattle.std.specs.Prelude.{◌≡◌, ◌<◌, [], ◌∷◌, ◌++◌, List as ListOf, length, IfOk, OnOk};
 ghost use Rattle.vm_labels.specs.declared.row.Row.{Row as RowOf};
-ghost use Rattle.vm_machine.specs.Batches.{with_more, row_count};
+ghost use Rattle.vm_machine.specs.Batches.{with_more, row_count, enough};
 
 use std::alloc::{AllocError, Global};
 use std::marker::Model;
@@ -44,8 +44,9 @@ impl Batches {
 
     /// Takes a line that holds one row. After want of memory rows are lost.
     pub fn add(&mut self, alloc: Global, row: Row) -> Result<(), AllocError>
-        ensures { OnOk result ((more : ListOf (ListOf RowOf)) →
+        ensures added { OnOk result ((more : ListOf (ListOf RowOf)) →
             with_more self.old ((row ∷ []) ∷ more) ≡ with_more self.new more) }
+        ensures small { length self.new.held < enough }
     {
         let rows = self.rows.checked_add(1).ok_or(AllocError)?;
         self.held.push(row)?;

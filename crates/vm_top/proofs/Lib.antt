@@ -1,5 +1,9 @@
+mod ActLaws
+mod BodyLaws
+mod DoneLaws
 mod InputLaws
 mod LastLaws
 mod NoteLaws
+mod PlayLaws
 mod ReplyLaws
 mod WordLaws

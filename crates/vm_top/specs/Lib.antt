@@ -1,8 +1,12 @@
 pub mod Answer
 pub mod Asked
 pub mod ExitCodes
+pub mod Playing
+pub mod Printed
 pub mod Reading
+pub mod Replay
 pub mod Reply
 pub mod Rows
+pub mod Script
 pub mod Statuses
 pub mod Words

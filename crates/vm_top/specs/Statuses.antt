@@ -1,11 +1,14 @@
 -- What a command may answer, and why.
-use Rattle.std.specs.Prelude.{◌≡◌, ℕ, ◌^◌, ◌<◌, ◌≤◌, List, ◌++◌, length, take, codes, ◌⊎◌, Option, Some, None, Result, Ok, Err, ⊤}
+use Rattle.std.specs.Prelude.{◌≡◌, ◌≢◌, ℕ, ◌^◌, ◌<◌, ◌≤◌, List, [], ◌++◌, length, take, codes, decimal, ◌⊎◌, Option, Some, None, Result, Ok, Err, ⊤}
 use Rattle.vm_outside.specs.Clock.{Answers}
 use Rattle.vm_outside.specs.Outside.{Rose, Takes, Told}
+use Rattle.vm_lines.specs.Lines.{lines}
 use Rattle.vm_top.specs.Answer.{last_answer}
-use Rattle.vm_top.specs.Words.{Task, last}
+use Rattle.vm_top.specs.Replay.{IsPlayed, IsPlayedInPart, IsPlayedToBad}
+use Rattle.vm_top.specs.Script.{IsBadAt}
+use Rattle.vm_top.specs.Words.{Task, last, replay}
 use Rattle.vm_top.specs.declared.fault.Fault.{Fault}
-use Rattle.vm_top.specs.declared.fault.Fault.TheVariants.{Usage, InputTooLong, Input, Output, Memory}
+use Rattle.vm_top.specs.declared.fault.Fault.TheVariants.{Usage, InputTooLong, BadLine, Input, Output, Memory}
 use Rattle.vm_top.specs.declared.status.Status.{Status}
 use Rattle.vm_top.specs.declared.status.Status.TheVariants as code
 
@@ -17,29 +20,62 @@ IsShort input = length input < 2 ^ 62
 abbrev pub IsTooLong : List ℕ → Type 0
 IsTooLong input = 2 ^ 62 ≤ length input
 
--- the answer of a task over an input, where the clock says `now`
-abbrev pub answer : Task → ℕ → List ℕ → List ℕ
-answer (last name time) now input = last_answer name time now input
+-- the clock was read once for `last`, and not for `replay`
+abbrev pub IsClocked : Task → ℕ → Option (List ℕ) → Option (List ℕ) → Type 0
+IsClocked (last name time) now before after = Answers before now after
+IsClocked replay now before after = after ≡ before
+
+-- a text is the answer of a task over an input, where the clock says `now`
+abbrev pub IsAnswer : Task → ℕ → List ℕ → List ℕ → Type 0
+IsAnswer (last name time) now input text = text ≡ last_answer name time now input
+IsAnswer replay now input text = IsPlayed (lines input) text
+
+-- a text is what was to be written by the time that the output failed: of a script the answers of its
+-- first commands
+abbrev pub IsDue : Task → ℕ → List ℕ → List ℕ → Type 0
+IsDue (last name time) now input text = IsShort input × (text ≡ last_answer name time now input)
+IsDue replay now input text = IsPlayedInPart (lines input) text
+
+-- a text is what was written by a task that refused something: `last` writes nothing before its answer,
+-- a script the answers of the commands before the first line outside its grammar
+abbrev pub IsRefused : Task → List ℕ → List ℕ → Type 0
+IsRefused (last name time) input text = IsTooLong input × (text ≡ [])
+IsRefused replay input text =
+    (IsTooLong input × IsPlayedInPart (lines input) text) ⊎ IsPlayedToBad (lines input) text
+
+-- a text is what was written by a task that stopped for another cause
+abbrev pub IsStopped : Task → List ℕ → List ℕ → Type 0
+IsStopped (last name time) input text = text ≡ []
+IsStopped replay input text = IsPlayedInPart (lines input) text
 
 -- the answer was written, and nothing else
 pub record IsAnswered (task : Task) (now : ℕ) (before after : Option (List ℕ)) (input : List ℕ) : Type 0 where
   pub short : IsShort input
-  pub written : Takes before (answer task now input) after
+  pub text : List ℕ
+  pub answers : IsAnswer task now input text
+  pub written : Takes before text after
 
--- a first part of the answer was written, and nothing else
+-- a first part of what was due was written, and nothing else
 pub record IsAnsweredInPart (task : Task) (now : ℕ) (before after : Option (List ℕ)) (input : List ℕ) : Type 0 where
-  pub short : IsShort input
+  pub text : List ℕ
+  pub due : IsDue task now input text
   pub part : ℕ
-  pub within : part ≤ length (answer task now input)
-  pub written : Takes before (take part (answer task now input)) after
+  pub within : part ≤ length text
+  pub written : Takes before (take part text) after
 
--- A task was done over an input up to a status: the clock was read once, and what was written is the
--- answer, or a first part of it where the output failed.
+-- a text of this kind was written, and nothing else
+abbrev pub Wrote : (List ℕ → List ℕ → Type 0) → Option (List ℕ) → Option (List ℕ) → List ℕ → Type 0
+Wrote Is before after input = (text : List ℕ) × Is input text × Takes before text after
+
+-- A task was done over an input up to a status. What was written is the answer where all went well, a
+-- first part of it where the output failed, and else what stood fast by then.
 pub record IsDone (task : Task) (status : Status) (clock_before clock_after left before after : Option (List ℕ)) : Type 0 where
   pub now : ℕ
-  pub clock : Answers clock_before now clock_after
+  pub clock : IsClocked task now clock_before clock_after
   pub answered : status ≡ code.Ok → Told left (IsAnswered task now before after)
   pub part : status ≡ code.OutputFault → Told left (IsAnsweredInPart task now before after)
+  pub refused : status ≡ code.Refused → Told left (Wrote (IsRefused task) before after)
+  pub stopped : status ≢ code.Ok → status ≢ code.OutputFault → Told left (Wrote (IsStopped task) before after)
 
 -- what the words ask for was done; where they are no command, nothing was
 abbrev pub IsDoneBy : Option Task → Status → Option (List ℕ) → Option (List ℕ) → Option (List ℕ) → Option (List ℕ) → Option (List ℕ) → Type 0
@@ -51,6 +87,7 @@ IsDoneBy (Some task) status clock_before clock_after left before after =
 abbrev pub IsCause : Fault → Option Task → List ℕ → Type 0
 IsCause Usage task input = task ≡ None
 IsCause InputTooLong task input = IsTooLong input
+IsCause (BadLine number) task input = (task ≡ Some replay) × IsBadAt number (lines input)
 IsCause Input task input = ⊤
 IsCause Output task input = ⊤
 IsCause Memory task input = ⊤
@@ -59,6 +96,7 @@ IsCause Memory task input = ⊤
 abbrev pub status_of : Fault → Status
 status_of Usage = code.Usage
 status_of InputTooLong = code.Refused
+status_of (BadLine number) = code.Refused
 status_of Input = code.InputFault
 status_of Output = code.OutputFault
 status_of Memory = code.Memory
@@ -72,6 +110,7 @@ outcome (Err fault) = status_of fault
 abbrev pub text_of : Fault → List ℕ
 text_of Usage = codes "usage"
 text_of InputTooLong = codes "input too long"
+text_of (BadLine number) = codes "bad script line " ++ decimal number
 text_of Input = codes "input fault"
 text_of Output = codes "output fault"
 text_of Memory = codes "out of memory"

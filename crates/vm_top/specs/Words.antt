@@ -1,5 +1,5 @@
 -- The words of a command line.
-use Rattle.std.specs.Prelude.{ℕ, List, [], ◌∷◌, codes, Option, None, if◌then◌else◌}
+use Rattle.std.specs.Prelude.{ℕ, ◌==◌, List, [], ◌∷◌, length, codes, Option, Some, None, if◌then◌else◌}
 use Rattle.std.specs.Option.{option_map}
 use Rattle.std.specs.Str.{bytes_eq}
 use Rattle.vm_labels.specs.Name.{is_name}
@@ -9,6 +9,8 @@ use Rattle.vm_script.specs.Number.{number_up_to}
 pub data Task : Type 0 where
   -- `last NAME TIME`
   last : (name : List ℕ) → (time : ℕ) → Task
+  -- `replay`
+  replay : Task
 
 -- a time in ms: 1 to 20 digits, at most 2^48 - 1
 abbrev pub time_of : List ℕ → Option ℕ
@@ -24,8 +26,13 @@ abbrev pub last_of : List (List ℕ) → Option Task
 last_of (name ∷ time ∷ []) = if is_name name then option_map (λ at. last name at) (time_of time) else None
 last_of _ = None
 
+-- no word
+abbrev pub replay_of : List (List ℕ) → Option Task
+replay_of words = if length words == 0 then Some replay else None
+
 -- what the words ask for, none where they are no command
 abbrev pub asked : List (List ℕ) → Option Task
 asked [] = None
 asked (command ∷ more) =
-    if bytes_eq command (codes "last") then last_of (positional more) else None
+    if bytes_eq command (codes "last") then last_of (positional more)
+    else (if bytes_eq command (codes "replay") then replay_of (positional more) else None)

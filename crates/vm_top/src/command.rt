@@ -8,6 +8,7 @@ ghost use Rattle.vm_top.specs.Words.{asked, last};
 
 use crate::fault::Fault;
 use crate::last::last_answer;
+use crate::play::play;
 use crate::words::{Task, asked};
 use std::alloc::Global;
 use vm_outside::{Clock, Failed, Sink, Source, write_all};
@@ -32,8 +33,6 @@ pub fn run<S: Source, K: Sink, C: Clock>(
     ensures input_fault { IsErrOf result Fault.Input → Rose (S.faults input.old) (S.faults input.new) }
     ensures output_fault { IsErrOf result Fault.Output →
         Rose (K.faults output.old) (K.faults output.new) }
-    ensures silent { IfErr result (λ fault.
-        fault ≢ Fault.Output → K.taken output.new ≡ K.taken output.old) }
     ensures untouched { asked (map string_bytes words.now) ≡ None →
         S.left input.new ≡ S.left input.old }
 
@@ -43,6 +42,7 @@ pub fn run<S: Source, K: Sink, C: Clock>(
 {
     match asked(words) {
         Some(Task::Last { name, time }) => run_last(alloc, name, time, input, output, clock),
+        Some(Task::Replay) => play(alloc, input, output),
         None => Err(Fault::Usage),
     }
 }

@@ -14,6 +14,12 @@ pub enum Fault {
     /// The input has 2^62 bytes and no end among them.
     #[error("input too long")]
     InputTooLong,
+    /// A line of a script is no command, or its body has no end.
+    #[error("bad script line {line}")]
+    BadLine {
+        /// The number of the line, counted from 1.
+        line: u64,
+    },
     /// The input failed.
     #[error("input fault")]
     Input,
@@ -61,7 +67,7 @@ impl Fault {
     {
         match self {
             Fault::Usage => Status::Usage,
-            Fault::InputTooLong => Status::Refused,
+            Fault::InputTooLong | Fault::BadLine { .. } => Status::Refused,
             Fault::Input => Status::InputFault,
             Fault::Output => Status::OutputFault,
             Fault::Memory => Status::Memory,

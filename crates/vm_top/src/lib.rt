@@ -3,21 +3,29 @@
 //!
 //! `run_words` carries the theorem of the whole program in its clauses: the answer is the definition's
 //! over the whole input, and each other status has its cause. Read it first, and then the definitions
-//! that it cites, from the answer down: `specs/Statuses.antt`, `specs/Answer.antt`, `specs/Rows.antt` and
-//! `specs/Reply.antt`; the words are in `specs/Words.antt`. What a line says is defined in `vm_promtext`,
-//! what the lines of an input are in `vm_lines`, and what a query gives in `vm_machine`.
+//! that it cites: `specs/Words.antt` and `specs/Statuses.antt`; for `last` `specs/Answer.antt`,
+//! `specs/Rows.antt` and `specs/Reply.antt`; for `replay` `specs/Script.antt`, `specs/Replay.antt` and
+//! `specs/Printed.antt`. What a line says is defined in `vm_promtext`, what a script's line says in
+//! `vm_script`, what the lines of an input are in `vm_lines`, and what a query gives and a machine does in
+//! `vm_machine`.
 //!
 //! It stands on these crates, on `vm_outside` for what it meets of the world, on `vm_labels` and
-//! `vm_decimal` for label sets and numbers, on `vm_script` for the numbers of the command line, and on
+//! `vm_decimal` for label sets and numbers, on `itoa` and `arrayvec` for what it prints, and on
 //! `thiserror` for the texts of its faults.
 #![tactic(auto)]
 
+mod act;
+mod body;
 mod command;
 mod fault;
 mod input_lines;
 mod last;
 mod note;
+mod play;
+mod printed;
 mod program;
+#[cfg(test)]
+mod replay_tests;
 mod reply;
 mod status;
 #[cfg(test)]

@@ -1,10 +1,15 @@
 //! The line that says why a command ended.
 
-ghost use Rattle.std.specs.Prelude.{◌≡◌, ◌≤◌};
-ghost use Rattle.vm_top.specs.Statuses.{IsNote, note_of};
+ghost use Rattle.std.specs.Prelude.{◌≡◌, ◌≤◌, ◌<◌, ◌+◌, ◌++◌, length, decimal};
+ghost use Rattle.vm_top.specs.Statuses.{IsNote, note_of, text_of};
 
 use crate::fault::Fault;
+use arrayvec::ArrayVec;
+use itoa::Buffer;
 use vm_outside::{Sink, write_all};
+
+/// The length of the longest note: that of a bad line with 20 digits.
+const LONGEST: usize = 47;
 
 /// Writes the line that says a fault. A fault of `notes` itself is left aside.
 pub fn write_note<N: Sink>(notes: &mut N, fault: Fault)
@@ -12,7 +17,7 @@ pub fn write_note<N: Sink>(notes: &mut N, fault: Fault)
         (N.faults notes.old) (N.faults notes.new) }
     ensures counted { N.faults notes.old ≤ N.faults notes.new }
 {
-    write_line(notes, note_of(fault));
+    write_line(notes, &note_of(fault));
 }
 
 fn write_line<N: Sink>(notes: &mut N, line: &[u8])
@@ -23,14 +28,46 @@ fn write_line<N: Sink>(notes: &mut N, line: &[u8])
     let _ = write_all(notes, line);
 }
 
-fn note_of(fault: Fault) -> &'static [u8]
-    ensures { result.now ≡ note_of fault }
+fn note_of(fault: Fault) -> ArrayVec<u8, LONGEST>
+    ensures { result.items ≡ note_of fault }
+{
+    let mut note = ArrayVec::new();
+    put(&mut note, b"vmsingle: ");
+    put_text(&mut note, fault);
+    note.push(b'\n');
+    note
+}
+
+fn put_text(note: &mut ArrayVec<u8, LONGEST>, fault: Fault)
+    requires { length note.old.items ≤ 10 }
+    ensures text { note.new.items ≡ note.old.items ++ text_of fault }
+    ensures room { length note.new.items < 47 }
 {
     match fault {
-        Fault::Usage => b"vmsingle: usage\n",
-        Fault::InputTooLong => b"vmsingle: input too long\n",
-        Fault::Input => b"vmsingle: input fault\n",
-        Fault::Output => b"vmsingle: output fault\n",
-        Fault::Memory => b"vmsingle: out of memory\n",
+        Fault::Usage => put(note, b"usage"),
+        Fault::InputTooLong => put(note, b"input too long"),
+        Fault::BadLine { line } => {
+            put(note, b"bad script line ");
+            put_number(note, line);
+        }
+        Fault::Input => put(note, b"input fault"),
+        Fault::Output => put(note, b"output fault"),
+        Fault::Memory => put(note, b"out of memory"),
     }
+}
+
+fn put_number(note: &mut ArrayVec<u8, LONGEST>, number: u64)
+    requires { length note.old.items ≤ 26 }
+    ensures text { note.new.items ≡ note.old.items ++ decimal number }
+    ensures room { length note.new.items < 47 }
+{
+    let mut buffer = Buffer::new();
+    put(note, buffer.format(number).as_bytes());
+}
+
+fn put(note: &mut ArrayVec<u8, LONGEST>, piece: &[u8])
+    requires { length note.old.items + length piece.now ≤ 47 }
+    ensures { note.new.items ≡ note.old.items ++ piece.now }
+{
+    let _ = note.try_extend_from_slice(piece);
 }

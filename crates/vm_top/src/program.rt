@@ -3,7 +3,7 @@
 ghost use Rattle.std.specs.Prelude.{◌≡◌, ◌≢◌, ◌↔◌, ◌⊎◌, ◌≤◌, [], None, false, map, string_bytes};
 ghost use Rattle.std.specs.Option.{option_map};
 ghost use Rattle.vm_outside.specs.Outside.{Rose, Told};
-ghost use Rattle.vm_top.specs.Statuses.{IsDoneBy, IsTooLong, IsNoted};
+ghost use Rattle.vm_top.specs.Statuses.{IsDoneBy, IsNoted};
 ghost use Rattle.vm_top.specs.Words.{asked};
 
 use crate::command::run;
@@ -16,12 +16,17 @@ use vm_outside::{Clock, Disk, Link, Patterns, Sink, Source};
 ///
 /// `last NAME TIME` reads lines of the Prometheus text format 0.0.4, and prints the reply to the instant
 /// query NAME at TIME over these rows alone: of each series with this name the last sample in the 300,000 ms
-/// that end at TIME. A line that goes wrong is skipped; a row without a time has that of the clock. `--` ends
-/// the options. Any other words are `Usage`.
+/// that end at TIME. A line that goes wrong is skipped; a row without a time has that of the clock, which is
+/// read once, before the input.
+///
+/// `replay` reads a script of imports and queries, one command a line, and plays it on a store in memory: what
+/// a command prints is written before the next one is read. A line outside the script's grammar ends it as
+/// `Refused`. It doesn't read the clock.
+///
+/// `--` ends the options. Any other words are `Usage`.
 ///
 /// Where the status isn't `Ok`, a line `vmsingle: TEXT` is written to `notes`; it changes nothing where
-/// that fails. The command reads the clock once, before its input, and touches no disk, link or
-/// patterns.
+/// that fails. No command touches a disk, link or patterns.
 pub fn run_words<S: Source, K: Sink, N: Sink, D: Disk, L: Link, C: Clock, P: Patterns>(
     alloc: Global,
     words: &[String],
@@ -42,13 +47,10 @@ pub fn run_words<S: Source, K: Sink, N: Sink, D: Disk, L: Link, C: Clock, P: Pat
 
     // When each other status comes, and what was written then.
     ensures usage { (result ≡ Status.Usage) ↔ (asked (map string_bytes words.now) ≡ None) }
-    ensures refused { result ≡ Status.Refused → Told (S.left input.old) IsTooLong }
     ensures input_fault { result ≡ Status.InputFault →
         Rose (S.faults input.old) (S.faults input.new) }
     ensures output_fault { result ≡ Status.OutputFault →
         Rose (K.faults output.old) (K.faults output.new) }
-    ensures silent { result ≢ Status.Ok → result ≢ Status.OutputFault →
-        K.taken output.new ≡ K.taken output.old }
     ensures others { (result ≡ Status.Ok) ⊎ (result ≡ Status.Usage) ⊎ (result ≡ Status.Refused)
         ⊎ (result ≡ Status.Memory) ⊎ (result ≡ Status.InputFault) ⊎ (result ≡ Status.OutputFault) }
     ensures noted { IsNoted result (asked (map string_bytes words.now)) (S.left input.old)

@@ -13,19 +13,19 @@ use vm_promtext::Line;
 
 /// What one run of the program left.
 #[derive(Drop)]
-struct Outcome {
-    status: Status,
-    output: Vec<u8>,
-    notes: Vec<u8>,
+pub struct Outcome {
+    pub status: Status,
+    pub output: Vec<u8>,
+    pub notes: Vec<u8>,
 }
 
 /// No call of a source or a sink has this number.
-const NEVER: u64 = u64::MAX;
+pub const NEVER: u64 = u64::MAX;
 
 /// Runs the program over an input of which a read gives at most `most` bytes, and of which the read with the
 /// number `bad_read` fails, and over an output that takes at most `most` bytes a write and whose write with
 /// the number `bad_write` fails.
-fn run_over(
+pub fn run_over(
     alloc: Global,
     words: &str,
     input: &[u8],
@@ -68,7 +68,7 @@ fn words_of(alloc: Global, words: &str) -> Result<Vec<String>, AllocError> {
 }
 
 /// The body with these series.
-fn body(alloc: Global, series: &str) -> Result<String, AllocError> {
+pub fn body(alloc: Global, series: &str) -> Result<String, AllocError> {
     format!(in alloc;
         "{{\"status\":\"success\",\"data\":{{\"resultType\":\"vector\",\"result\":[{series}]}}}}\n"
     )
@@ -199,6 +199,9 @@ fn usage(rt: HostRuntime) -> Result<(), Fail> {
     for words in [
         "",
         "frobnicate",
+        "replay x",
+        "replay -- --",
+        "-- replay",
         "last",
         "last up",
         "last up 1000 1",

@@ -4,7 +4,7 @@ ghost use Rattle.std.specs.Prelude.{◌≡◌, ◌<◌, ◌^◌, ◌++◌, ◌�
 ghost use Rattle.std.specs.Option.{option_map};
 ghost use Rattle.std.specs.Str.{bytes_eq};
 ghost use Rattle.vm_top.specs.Asked.{task_of, IsSmall};
-ghost use Rattle.vm_top.specs.Words.{asked, last_of, positional, time_of};
+ghost use Rattle.vm_top.specs.Words.{asked, last_of, replay_of, positional, time_of};
 
 use vm_base::limits::MAX_TIME;
 use vm_labels::is_name;
@@ -15,6 +15,8 @@ use vm_script::read_number;
 pub enum Task<'a> {
     /// `last NAME TIME`: a metric's name, and a time in ms since the Unix epoch.
     Last { name: &'a str, time: u64 },
+    /// `replay`.
+    Replay,
 }
 
 /// Reads the words of a command line. None where they are no command.
@@ -25,11 +27,24 @@ pub fn asked(words: &[String]) -> Option<Task<'_>>
     let [command, rest @ ..] = words else {
         return None;
     };
-    if command.as_str() != "last" {
-        return None;
-    }
     let (before, after) = positional(rest);
-    last_of(before, after)
+    match command.as_str() {
+        "last" => last_of(before, after),
+        "replay" => replay_of(before, after),
+        _ => None,
+    }
+}
+
+fn replay_of<'a>(before: &'a [String], after: &'a [String]) -> Option<Task<'a>>
+    ensures value { option_map task_of result
+        ≡ replay_of (map string_bytes before.now ++ map string_bytes after.now) }
+    ensures small { IfSome result IsSmall }
+{
+    if before.is_empty() && after.is_empty() {
+        Some(Task::Replay)
+    } else {
+        None
+    }
 }
 
 /// The words before the first `--` and those after it.

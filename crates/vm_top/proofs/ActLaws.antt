@@ -1,0 +1,77 @@
+-- What a machine answers, and what is printed of it.
+use Rattle.std.proofs.Common.{◌≡◌, ℕ, List, [], length, map, append-nil, Option, Some, None, Result, Ok, Err, IfOk, true, false, refl, sym, ap, ◌∙◌, subst, inl, inr}
+use Rattle.std.specs.Option.{is_some}
+use Rattle.std.specs.Result.{is_ok, IsErrAnd}
+use Rattle.vm_labels.specs.declared.row.Batch.{Batch}
+use Rattle.vm_machine.specs.Batches.{batches_of, row_count, with_more}
+use Rattle.vm_machine.specs.Machine.{State, Steps, run_of, begin, end, begin_step, end_step, values, without}
+use Rattle.vm_machine.specs.declared.question.Question.{Question}
+use Rattle.vm_machine.specs.declared.question.Valued.{Valued}
+use Rattle.vm_machine.specs.declared.refusal.Refusal.{Refusal}
+use Rattle.vm_machine.specs.declared.refusal.Refusal.TheVariants.{PendingFull, BadRange, NotBuilt, ViewsFull, UnknownRun, RunTaken, Memory}
+use Rattle.vm_top.specs.Playing.{BodyOf, Gathers, IsAsked, IsReply}
+use Rattle.vm_top.specs.Printed.{accepted_line, refused_line}
+use Rattle.vm_top.specs.Replay.{Answers, Accepts, Refuses, Imports, batches, all_accepted, one_refused}
+use Rattle.vm_top.specs.Rows.{line_rows}
+
+-- the number is taken
+pub taken : (state : State) (number : ℕ) (asked : Result Question Refusal) → is_some (run_of number state.runs) ≡ true
+    → Steps state (begin number asked) state (Err (RunTaken number))
+taken state number asked some = go (run_of number state.runs) some
+  where
+    go : (there : Option _) → is_some there ≡ true → (state, Err (RunTaken number)) ≡ begin_step there state number asked
+    go None is = absurd cc
+    go (Some run) is = refl
+
+-- the question was refused
+pub refused_question : (state : State) (number : ℕ) (asked : Result Question Refusal) (why : Refusal) → run_of number state.runs ≡ None
+    → IsAsked asked (Err why) → Steps state (begin number asked) state (Err why)
+refused_question state number asked Memory free is = refl
+refused_question state number asked PendingFull free is = rw free (rw (sym is) refl)
+refused_question state number asked BadRange free is = rw free (rw (sym is) refl)
+refused_question state number asked NotBuilt free is = rw free (rw (sym is) refl)
+refused_question state number asked ViewsFull free is = rw free (rw (sym is) refl)
+refused_question state number asked (UnknownRun run) free is = rw free (rw (sym is) refl)
+refused_question state number asked (RunTaken run) free is = rw free (rw (sym is) refl)
+
+-- the reply to a run that ended, or that there was no memory for it
+pub ended : (before now : State) (number time : ℕ) (list : List Valued) (text : List ℕ)
+    → Steps before (end number) now (Ok (values time list)) → IsReply time list text
+    → Answers number (end number) before now text
+ended before now number time list text steps (inl is) = record { answer = Ok (values time list); steps = steps; text_is = is }
+ended before now number time list text steps (inr is) =
+    record { answer = Err Memory; steps = go (run_of number before.runs) steps; text_is = is }
+  where
+    go : (there : Option _) → (now, Ok (values time list)) ≡ end_step there before number → now ≡ without before number
+    go None is = let no : true ≡ false = ap (λ pair. is_ok pair.1) is in absurd cc
+    go (Some run) is = ap (λ pair. pair.0) is
+
+-- what holds of what is given gives another fact
+pub if_ok_more : {A E : Type 0} (result : Result A E) (P Q : A → Type 0) → ((a : A) → P a → Q a) → IfOk result P → IfOk result Q
+if_ok_more (Ok a) P Q more p = more a p
+if_ok_more (Err e) P Q more p = tt
+
+-- a body whose batches were all accepted
+pub imported : (time : ℕ) (body : BodyOf) (passed : List (List ℕ)) (before now : State) (all : List Batch) (text : List ℕ) → Gathers time body passed
+    → all ≡ with_more body.parted [] → Accepts before all now → text ≡ accepted_line (length all) (row_count all) body.skipped
+    → Imports time passed before now text
+imported time body passed before now all text gathers is accepts line =
+    let these : all ≡ batches time passed = is ∙ sym (gathers.batches []) ∙ ap batches_of (append-nil (map (line_rows time) passed)) in
+    subst (λ t. Imports time passed before now t)
+    (sym (line ∙ ap (λ list. accepted_line (length list) (row_count list) body.skipped) these
+    ∙ ap (accepted_line (length (batches time passed)) (row_count (batches time passed))) gathers.skips))
+    (all_accepted now (subst (λ list. Accepts before list now) these accepts))
+
+-- a body of which a batch was refused
+pub refused_body : (time : ℕ) (body : BodyOf) (passed : List (List ℕ)) (before now : State) (all : List Batch) (why : Refusal) (text : List ℕ)
+    → Gathers time body passed → all ≡ with_more body.parted [] → Refuses before all now why → text ≡ refused_line why
+    → Imports time passed before now text
+refused_body time body passed before now all why text gathers is refuses line =
+    let these : all ≡ batches time passed = is ∙ sym (gathers.batches []) ∙ ap batches_of (append-nil (map (line_rows time) passed)) in
+    subst (λ t. Imports time passed before now t) (sym line)
+    (one_refused now why (subst (λ list. Refuses before list now why) these refuses))
+
+-- what holds of an error holds of a result that is this error
+pub at_err : {A E : Type 0} (X : Result A E → Type 0) (result : Result A E) (e : E) → IsErrAnd result (λ f. f ≡ e) → X (Err e) → X result
+at_err X (Ok a) e is x = absurd is
+at_err X (Err f) e is x = subst (λ g. X (Err g)) (sym is) x

@@ -1,0 +1,62 @@
+-- The lines of a body.
+use Rattle.std.proofs.Common.{◌≡◌, ℕ, ◌+◌, ◌<◌, List, [], ◌∷◌, ◌++◌, length, append_assoc, map, codes, true, false, cond, refl, sym, ap, ◌∙◌}
+use Rattle.std.proofs.lemmas.List.{map-append}
+use Rattle.std.proofs.lemmas.List.Sums.{sum_by_push}
+use Rattle.std.proofs.lemmas.Slice.Eq.{bytes_eq-Decides}
+use Rattle.std.specs.Prelude.{nat_eq, ◌&&◌}
+use Rattle.std.specs.Option.{is_none}
+use Rattle.std.specs.List.{AllByRecursion}
+use Rattle.vm_labels.specs.declared.row.Row.{Row}
+use Rattle.vm_lines.specs.Lines.{is_too_long}
+use Rattle.vm_machine.specs.Batches.{batches_of, enough, with_more}
+use Rattle.vm_machine.proofs.BatchLaws.{no_row}
+use Rattle.vm_promtext.specs.Means.{rows_of, rows_of_line}
+use Rattle.vm_promtext.specs.Reading.{reading}
+use Rattle.vm_promtext.specs.declared.line.Line.{Line}
+use Rattle.vm_script.specs.Command.{is_body_end}
+use Rattle.vm_top.specs.Playing.{BodyOf, Gathers}
+use Rattle.vm_top.specs.Rows.{line_rows, or_none}
+
+-- one more at the end of a list of which each element has a property
+pub all_more : {X : Type 0} (P : X → Type 0) (xs : List X) (x : X) → AllByRecursion P xs → P x → AllByRecursion P (xs ++ x ∷ [])
+all_more P [] x are is = (is, tt)
+all_more P (y ∷ ys) x are is = (are.0, all_more P ys x are.1 is)
+
+-- a line that is too long ends no body
+pub no_end : (line : List ℕ) → is_too_long line ≡ true → false ≡ is_body_end line
+no_end [] long = refl
+no_end (a ∷ []) long = absurd cc
+no_end (a ∷ b ∷ more) long =
+    elim (nat_eq a 46) as (λ same. false ≡ (same && false)) [
+      | true ↦ refl
+      | false ↦ refl
+    ]
+
+-- one line more, whose rows came behind those that were there
+pub gathers_more : (now : ℕ) (old new : BodyOf) (passed : List (List ℕ)) (text : List ℕ) (line : Line) → Gathers now old passed
+    → line ≡ reading now text
+    → ((more : List (List Row)) → with_more old.parted (or_none (rows_of line) ∷ more) ≡ with_more new.parted more)
+    → new.skipped ≡ old.skipped + cond (is_none (rows_of line)) 1 0
+    → length new.parted.held < enough
+    → Gathers now new (passed ++ text ∷ [])
+gathers_more now old new passed text line so_far is comes skips few = record {
+  batches = λ more.
+      ap (λ rows. batches_of (rows ++ more)) (map-append (line_rows now) passed (text ∷ []))
+      ∙ ap batches_of (append_assoc (map (line_rows now) passed) (line_rows now text ∷ []) more)
+      ∙ so_far.batches (line_rows now text ∷ more)
+      ∙ ap (λ said. with_more old.parted (or_none (rows_of said) ∷ more)) (sym is)
+      ∙ comes more;
+  skips = skips ∙ ap (λ said. old.skipped + cond (is_none (rows_of said)) 1 0) is
+      ∙ ap (λ count. count + cond (is_none (rows_of_line now text)) 1 0) so_far.skips
+      ∙ sym (sum_by_push (λ line. cond (is_none (rows_of_line now line)) 1 0) passed text);
+  few = few;
+}
+
+-- a line without rows changes no batch
+pub no_rows : (old : BodyOf) → length old.parted.held < enough
+    → (more : List (List Row)) → with_more old.parted ([] ∷ more) ≡ with_more old.parted more
+no_rows old few more = no_row old.parted more few
+
+-- the line that ends a body is a full stop
+pub is_end : (line : List ℕ) → is_body_end line ≡ true → line ≡ codes "."
+is_end line is = (bytes_eq-Decides line (codes ".")).0 is

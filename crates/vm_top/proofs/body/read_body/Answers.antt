@@ -1,0 +1,87 @@
+use Rattle.std.proofs.Common.{[], ◌∷◌, ◌++◌, codes, sym, subst, ◌∙◌, arith, ◌≡◌, false}
+use Rattle.vm_script.specs.Command.{is_body_end}
+use Rattle.vm_top.specs.Playing.{Passes}
+use Rattle.vm_top.specs.Reading.{Comes, HasLine, IsLineOf}
+use Rattle.vm_top.proofs.BodyLaws.{all_more, is_end}
+use Rattle.vm_top.proofs.InputLaws.{takes_more, takes_none}
+use Rattle.vm_top.proofs.PlayLaws.{passes_none, passes_more, passes_line}
+use Rattle.vm_top.proofs.body.read_body.Goals as goal
+
+pub lines-init : goal.lines-init
+lines-init g c =
+    let left = g.S.Source.left c.args.input.now in
+    record {
+      passed = ([], tt, c.new-body.ensures c.args.time, passes_none c.args.lines.now left);
+      takes = takes_none c.args.lines.now left;
+      counted = omega arith;
+    }
+
+pub returns-in_err-step-clause-takes : goal.returns-in_err-step-clause-takes
+returns-in_err-step-clause-takes g c =
+    let left = g.S.Source.left in
+    takes_more c.args.lines.now c.lines.lines c.advance.new.self (left c.args.input.now) (left c.lines.input)
+    (left c.advance.new.input) c.lines.invariant.takes c.in_err-step.ensures.takes
+
+pub returns-then-ends_body-clause-reads : goal.returns-then-ends_body-clause-reads
+returns-then-ends_body-clause-reads g c =
+    let left = g.S.Source.left in
+    let has : HasLine c.in-Some.step c.lines.lines c.advance.new.self (left c.lines.input) (left c.advance.new.input) =
+    subst (λ s. Comes s c.lines.lines c.advance.new.self (left c.lines.input) (left c.advance.new.input)) c.in-Some.is c.in_ok-step.ensures.comes in
+    let shown = subst (λ text. IsLineOf c.in-Some.step text has.line) (sym c.line.ensures) has.is in
+    let so_far = c.lines.invariant.passed in
+    let end = is_end has.line (sym (c.ends_body.ensures has.line shown) ∙ c.if-ends_body.true) in
+    record {
+      passed = so_far.0;
+      within = so_far.1;
+      gathers = so_far.2;
+      passes = passes_more c.args.lines.now c.lines.lines c.advance.new.self (left c.args.input.now) (left c.lines.input)
+          (left c.advance.new.input) so_far.0 (codes "." ∷ []) so_far.3
+          (subst (λ line. Passes (line ∷ []) c.lines.lines c.advance.new.self (left c.lines.input) (left c.advance.new.input))
+          end (passes_line c.in-Some.step c.lines.lines c.advance.new.self (left c.lines.input) (left c.advance.new.input) has));
+    }
+
+pub returns-then-ends_body-clause-takes : goal.returns-then-ends_body-clause-takes
+returns-then-ends_body-clause-takes g c =
+    let left = g.S.Source.left in
+    takes_more c.args.lines.now c.lines.lines c.advance.new.self (left c.args.input.now) (left c.lines.input)
+    (left c.advance.new.input) c.lines.invariant.takes c.in_ok-step.ensures.takes
+
+pub returns-in_err-line-clause-takes : goal.returns-in_err-line-clause-takes
+returns-in_err-line-clause-takes g c =
+    let left = g.S.Source.left in
+    takes_more c.args.lines.now c.lines.lines c.advance.new.self (left c.args.input.now) (left c.lines.input)
+    (left c.advance.new.input) c.lines.invariant.takes c.in_ok-step.ensures.takes
+
+pub returns-in_err-add-clause-takes : goal.returns-in_err-add-clause-takes
+returns-in_err-add-clause-takes g c =
+    let left = g.S.Source.left in
+    takes_more c.args.lines.now c.lines.lines c.advance.new.self (left c.args.input.now) (left c.lines.input)
+    (left c.advance.new.input) c.lines.invariant.takes c.in_ok-step.ensures.takes
+
+pub returns-clause-takes : goal.returns-clause-takes
+returns-clause-takes g c =
+    let left = g.S.Source.left in
+    takes_more c.args.lines.now c.lines.lines c.advance.new.self (left c.args.input.now) (left c.lines.input)
+    (left c.advance.new.input) c.lines.invariant.takes c.in_ok-step.ensures.takes
+
+pub lines-preserved : goal.lines-preserved
+lines-preserved g c =
+    let left = g.S.Source.left in
+    let has : HasLine c.in-Some.step c.lines.lines c.advance.new.self (left c.lines.input) (left c.advance.new.input) =
+    subst (λ s. Comes s c.lines.lines c.advance.new.self (left c.lines.input) (left c.advance.new.input)) c.in-Some.is c.in_ok-step.ensures.comes in
+    let shown = subst (λ text. IsLineOf c.in-Some.step text has.line) (sym c.line.ensures) has.is in
+    let shown_again = subst (λ text. IsLineOf c.in-Some.step text has.line) (sym c.line-in-Some.ensures) has.is in
+    let so_far = c.lines.invariant.passed in
+    record {
+      passed = (
+        so_far.0 ++ has.line ∷ [],
+        all_more (λ line. is_body_end line ≡ false) so_far.0 has.line so_far.1 (sym (c.ends_body.ensures has.line shown) ∙ c.if-ends_body.false),
+        c.in_ok-add.ensures c.args.time so_far.0 has.line so_far.2 (c.in_ok-line.ensures has.line shown_again),
+        passes_more c.args.lines.now c.lines.lines c.advance.new.self (left c.args.input.now) (left c.lines.input)
+            (left c.advance.new.input) so_far.0 (has.line ∷ []) so_far.3
+            (passes_line c.in-Some.step c.lines.lines c.advance.new.self (left c.lines.input) (left c.advance.new.input) has),
+      );
+      takes = takes_more c.args.lines.now c.lines.lines c.advance.new.self (left c.args.input.now) (left c.lines.input)
+          (left c.advance.new.input) c.lines.invariant.takes c.in_ok-step.ensures.takes;
+      counted = omega (arith, c.lines.invariant.counted, c.in_ok-step.ensures.counted);
+    }

@@ -1,0 +1,107 @@
+use Rattle.std.proofs.Common.{Result, length, take, arith, refl, sym, ap, subst}
+use Rattle.vm_outside.specs.Outside.{Told}
+use Rattle.vm_outside.specs.Outside as outside
+use Rattle.vm_top.specs.Playing.{Ends, HasPlayed}
+use Rattle.vm_top.specs.Reading.{Comes, HasLine, first_place}
+use Rattle.vm_top.specs.declared.fault.Fault.{Fault}
+use Rattle.vm_top.specs.declared.fault.Fault.TheVariants.{Memory}
+use Rattle.vm_top.proofs.ActLaws.{at_err}
+use Rattle.vm_top.proofs.InputLaws.{takes_more, long_from, short_at_end}
+use Rattle.vm_top.proofs.LastLaws.{none_taken}
+use Rattle.vm_top.proofs.PlayLaws.{plays_none, plays_more, wrote_none, ends_failed, ends_failed_line, ends_part, ends_whole}
+use Rattle.vm_top.proofs.play.play.Goals as goal
+
+pub returns-in_err-lines-clause-ends : goal.returns-in_err-lines-clause-ends
+returns-in_err-lines-clause-ends g c =
+    let left = g.S.Source.left c.args.input.now in
+    let taken = g.K.Sink.taken c.args.output.now in
+    at_err (λ result. Told left (Ends result taken taken)) c.from_residual.result Memory c.from_residual.ensures.1 (wrote_none left taken)
+
+pub lines-init : goal.lines-init
+lines-init g c =
+    let left = g.S.Source.left c.args.input.now in
+    let taken = g.K.Sink.taken c.args.output.now in
+    let lines = c.in_ok-lines.lines in
+    record {
+      played = subst (λ machine. HasPlayed machine lines left left taken taken) (sym c.new-machine.ensures)
+          (plays_none lines left taken c.in_ok-lines.ensures);
+      takes = none_taken lines left c.in_ok-lines.ensures;
+      input_counted = omega arith;
+      output_counted = omega arith;
+    }
+
+pub returns-in_err-step-clause-ends : goal.returns-in_err-step-clause-ends
+returns-in_err-step-clause-ends g c =
+    let left = g.S.Source.left in
+    let taken = g.K.Sink.taken in
+    let fault = c.in_err-step.field-0.0 in
+    at_err (λ result. Told (left c.args.input.now) (Ends result (taken c.args.output.now) (taken c.lines.output)))
+    c.from_residual-in_err-step.result fault c.from_residual-in_err-step.ensures.1
+    (ends_failed fault c.lines.machine c.lines.lines (left c.args.input.now) (left c.lines.input) (taken c.args.output.now) (taken c.lines.output)
+    c.lines.invariant.played c.in_err-step.ensures.others
+    (λ is. long_from first_place c.lines.lines (left c.args.input.now) (left c.lines.input)
+    c.lines.invariant.takes refl (c.in_err-step.ensures.too_long is)))
+
+pub returns-in_err-text-clause-ends : goal.returns-in_err-text-clause-ends
+returns-in_err-text-clause-ends g c =
+    let left = g.S.Source.left in
+    let taken = g.K.Sink.taken in
+    let fault = c.in_err-text.field-0.0 in
+    let has : HasLine c.in-Some.step c.lines.lines c.advance.new.self (left c.lines.input) (left c.advance.new.input) =
+    subst (λ s. Comes s c.lines.lines c.advance.new.self (left c.lines.input) (left c.advance.new.input)) c.in-Some.is c.in_ok-step.ensures.comes in
+    let takes = takes_more first_place c.lines.lines c.advance.new.self (left c.args.input.now) (left c.lines.input)
+    (left c.advance.new.input) c.lines.invariant.takes c.in_ok-step.ensures.takes in
+    at_err (λ result. Told (left c.args.input.now) (Ends result (taken c.args.output.now) (taken c.lines.output)))
+    c.from_residual-in_err-text.result fault c.from_residual-in_err-text.ensures.1
+    (ends_failed_line fault c.in-Some.step c.lines.machine c.lines.lines c.advance.new.self (left c.args.input.now) (left c.lines.input) (left c.advance.new.input)
+    (taken c.args.output.now) (taken c.lines.output) c.lines.invariant.played has
+    (c.in_err-text.ensures.broken has.line has.is) c.in_err-text.ensures.known
+    (λ is. long_from first_place c.advance.new.self (left c.args.input.now) (left c.advance.new.input) takes refl
+    (c.in_err-text.ensures.too_long is)))
+
+pub returns-in_err-write_text-clause-ends : goal.returns-in_err-write_text-clause-ends
+returns-in_err-write_text-clause-ends g c =
+    let left = g.S.Source.left in
+    let taken = g.K.Sink.taken in
+    let has : HasLine c.in-Some.step c.lines.lines c.advance.new.self (left c.lines.input) (left c.advance.new.input) =
+    subst (λ s. Comes s c.lines.lines c.advance.new.self (left c.lines.input) (left c.advance.new.input)) c.in-Some.is c.in_ok-step.ensures.comes in
+    let part = c.in_err-write_text.ensures.part in
+    let ends : Result Unit Fault → Type 0 = λ result. Told (left c.args.input.now) (Ends result (taken c.args.output.now) (taken c.write_text.new.output)) in
+    at_err ends c.from_residual-in_err-write_text.result c.in_err-write_text.field-0.0 c.from_residual-in_err-write_text.ensures.1
+    (subst ends (sym c.in_err-write_text.ensures.only) (ends_part c.in-Some.step c.lines.machine c.play_line.new.machine c.lines.lines c.advance.new.self c.play_line.new.lines
+    (left c.args.input.now) (left c.lines.input) (left c.advance.new.input) (left c.play_line.new.input)
+    (taken c.args.output.now) (taken c.lines.output) (taken c.write_text.new.output) c.in_ok-text.text.items part.0
+    c.lines.invariant.played has (c.in_ok-text.ensures.plays has.line has.is)
+    (omega (arith, part.1, ap length c.deref.ensures.value))
+    (subst (λ bytes. outside.Takes (taken c.lines.output) (take part.0 bytes) (taken c.write_text.new.output)) c.deref.ensures.value part.2)))
+
+pub lines-preserved : goal.lines-preserved
+lines-preserved g c =
+    let left = g.S.Source.left in
+    let taken = g.K.Sink.taken in
+    let has : HasLine c.in-Some.step c.lines.lines c.advance.new.self (left c.lines.input) (left c.advance.new.input) =
+    subst (λ s. Comes s c.lines.lines c.advance.new.self (left c.lines.input) (left c.advance.new.input)) c.in-Some.is c.in_ok-step.ensures.comes in
+    record {
+      played = plays_more c.in-Some.step c.lines.machine c.play_line.new.machine c.lines.lines c.advance.new.self c.play_line.new.lines
+          (left c.args.input.now) (left c.lines.input) (left c.advance.new.input) (left c.play_line.new.input)
+          (taken c.args.output.now) (taken c.lines.output) (taken c.write_text.new.output) c.in_ok-text.text.items
+          c.lines.invariant.played has (c.in_ok-text.ensures.plays has.line has.is)
+          (subst (λ bytes. outside.Takes (taken c.lines.output) bytes (taken c.write_text.new.output)) c.deref.ensures.value c.in_ok-write_text.ensures.all);
+      takes = takes_more first_place c.advance.new.self c.play_line.new.lines (left c.args.input.now) (left c.advance.new.input) (left c.play_line.new.input)
+          (takes_more first_place c.lines.lines c.advance.new.self (left c.args.input.now) (left c.lines.input)
+          (left c.advance.new.input) c.lines.invariant.takes c.in_ok-step.ensures.takes)
+          c.in_ok-text.ensures.takes;
+      input_counted = omega (arith, c.lines.invariant.input_counted, c.in_ok-step.ensures.counted, c.in_ok-text.ensures.counted);
+      output_counted = omega (arith, c.lines.invariant.output_counted, c.in_ok-write_text.ensures.counted);
+    }
+
+pub returns-clause-ends : goal.returns-clause-ends
+returns-clause-ends g c =
+    let left = g.S.Source.left in
+    let taken = g.K.Sink.taken in
+    let end = subst (λ s. Comes s c.lines.lines c.advance.new.self (left c.lines.input) (left c.advance.new.input)) c.in_default.is c.in_ok-step.ensures.comes in
+    ends_whole c.lines.machine c.lines.lines (left c.args.input.now) (left c.lines.input) (taken c.args.output.now) (taken c.lines.output)
+    c.lines.invariant.played end.end
+    (short_at_end first_place c.advance.new.self (left c.args.input.now) (left c.advance.new.input)
+    (takes_more first_place c.lines.lines c.advance.new.self (left c.args.input.now) (left c.lines.input)
+    (left c.advance.new.input) c.lines.invariant.takes c.in_ok-step.ensures.takes) refl end.spent end.few)

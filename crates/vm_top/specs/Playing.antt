@@ -1,0 +1,128 @@
+-- A script that is played line by line: words of inner contracts, which the theorem doesn't cite.
+use Rattle.std.specs.Prelude.{◌≡◌, ℕ, ◌+◌, ◌<◌, ◌≤◌, List, [], ◌∷◌, ◌++◌, length, map, codes, Option, Some, None, Result, Ok, Err, ⊤, ◌⊎◌}
+use Rattle.std.specs.List.{AllByRecursion}
+use Rattle.std.specs.Option.{option_map}
+use Rattle.vm_lines.specs.Lines.{lines}
+use Rattle.vm_lines.specs.Reading.{to_go}
+use Rattle.vm_labels.specs.declared.row.Row.{Row}
+use Rattle.vm_machine.specs.Batches.{Parted, batches_of, enough, with_more}
+use Rattle.vm_machine.specs.Machine.{State}
+use Rattle.vm_machine.specs.declared.question.Question.{Question}
+use Rattle.vm_machine.specs.declared.question.Valued.{Valued}
+use Rattle.vm_machine.specs.declared.refusal.Refusal.{Refusal}
+use Rattle.vm_machine.specs.declared.refusal.Refusal.TheVariants.{Memory as OutOfMemory}
+use Rattle.vm_outside.specs.Outside.{Told, Takes}
+use Rattle.vm_script.specs.declared.command.Command.{Command}
+use Rattle.vm_script.specs.Command.{command_of}
+use Rattle.vm_top.specs.Printed.{refused_line}
+use Rattle.vm_top.specs.Reading.{Place, unread}
+use Rattle.vm_top.specs.Reply.{reply}
+use Rattle.vm_top.specs.Replay.{skipped, Does, Plays, IsPlayedInPart, IsPlayedToBad}
+use Rattle.vm_top.specs.Rows.{line_rows}
+use Rattle.vm_top.specs.Script.{Entry, IsEntry, HasBody, AreWithin, IsCutOff, IsBadAt, lines_behind, script_lines}
+use Rattle.vm_top.specs.Statuses.{IsTooLong, IsAnswered, IsAnsweredInPart, Wrote}
+use Rattle.vm_top.specs.Words.{replay}
+use Rattle.vm_top.specs.declared.fault.Fault.{Fault}
+use Rattle.vm_top.specs.declared.fault.Fault.TheVariants.{Usage, InputTooLong, BadLine, Input, Output, Memory}
+
+-- these lines are the first of what was to be read, and the other lines are still to be read
+abbrev pub Through : Option (List ℕ) → List (List ℕ) → Option (List ℕ) → Type 0
+Through before passed now =
+    option_map lines before ≡ option_map (λ bytes. passed ++ lines bytes) now
+
+-- what is known of a body while its lines come: its rows in batches, and how many lines are skipped
+pub record BodyOf : Type 0 where
+  pub parted : Parted
+  pub skipped : ℕ
+
+-- the body of these lines, with more to come
+pub record Gathers (now : ℕ) (body : BodyOf) (passed : List (List ℕ)) : Type 0 where
+  pub batches : (more : List (List Row)) → batches_of (map (line_rows now) passed ++ more) ≡ with_more body.parted more
+  pub skips : body.skipped ≡ skipped now passed
+  pub few : length body.parted.held < enough
+
+-- lines were passed, each was counted, and none comes again
+pub record Passes (passed : List (List ℕ)) (before now : Place) (left_before left_now : Option (List ℕ)) : Type 0 where
+  pub through : Through (unread before left_before) passed (unread now left_now)
+  pub counted : now.number ≡ before.number + length passed
+  pub nearer : to_go now.reading ≤ to_go before.reading
+
+-- a body was read with the line that ends it
+pub record IsWhole (time : ℕ) (body : BodyOf) (before now : Place) (left_before left_now : Option (List ℕ)) : Type 0 where
+  pub passed : List (List ℕ)
+  pub within : AreWithin passed
+  pub gathers : Gathers time body passed
+  pub passes : Passes (passed ++ codes "." ∷ []) before now left_before left_now
+
+-- the input ended before the line that ends a body
+abbrev pub IsCut : Place → Option (List ℕ) → Type 0
+IsCut before left_before = Told (unread before left_before) (λ bytes. AreWithin (lines bytes))
+
+-- a body was read, or the input ended within it
+abbrev pub ReadsBody : ℕ → Option BodyOf → Place → Place → Option (List ℕ) → Option (List ℕ) → Type 0
+ReadsBody time None before now left_before left_now = IsCut before left_before
+ReadsBody time (Some body) before now left_before left_now = IsWhole time body before now left_before left_now
+
+-- a command was done, whose body was read, and a text is what it prints
+pub record PlaysCommand (command : Command) (before now : State) (at after : Place) (left_at left_after : Option (List ℕ)) (text : List ℕ) : Type 0 where
+  pub body : List (List ℕ)
+  pub has : HasBody command body
+  pub does : Does command body before now text
+  pub passes : Passes (lines_behind command body) at after left_at left_after
+
+-- the command of a line was done
+pub record PlaysLine (line : List ℕ) (before now : State) (at after : Place) (left_at left_after : Option (List ℕ)) (text : List ℕ) : Type 0 where
+  pub command : Command
+  pub says : command_of line ≡ Some command
+  pub plays : PlaysCommand command before now at after left_at left_after text
+
+-- a fault of a line that says this command, if it says one: where it is that of the script, the line is
+-- outside the grammar, and has the number of the place
+abbrev pub IsBrokenBy : Fault → Option Command → Place → Option (List ℕ) → Type 0
+IsBrokenBy (BadLine number) command at left_at =
+    (number ≡ at.number) × Told (unread at left_at) (λ bytes. IsCutOff command (lines bytes))
+IsBrokenBy Usage command at left_at = ⊤
+IsBrokenBy InputTooLong command at left_at = ⊤
+IsBrokenBy Input command at left_at = ⊤
+IsBrokenBy Output command at left_at = ⊤
+IsBrokenBy Memory command at left_at = ⊤
+
+-- a command can fail so
+abbrev pub CanPlay : Fault → Type 0
+CanPlay (BadLine number) = ⊤
+CanPlay Usage = ⊥
+CanPlay InputTooLong = ⊤
+CanPlay Input = ⊤
+CanPlay Output = ⊥
+CanPlay Memory = ⊤
+
+-- a question is the one that is asked for, unless memory ran out
+abbrev pub IsAsked : Result Question Refusal → Result Question Refusal → Type 0
+IsAsked asked (Err OutOfMemory) = ⊤
+IsAsked asked given = given ≡ asked
+
+-- the commands so far were done, and what they print was written
+pub record HasPlayed (machine : State) (place : Place) (start left before after : Option (List ℕ)) : Type 0 where
+  pub entries : List Entry
+  pub are : AllByRecursion IsEntry entries
+  pub texts : List ℕ
+  pub plays : Plays entries machine texts
+  pub through : Through start (script_lines entries) (unread place left)
+  pub counted : place.number ≡ length (script_lines entries)
+  pub written : Takes before texts after
+
+-- how a script ends over an input, and what was written by then
+abbrev pub Ends : Result Unit Fault → Option (List ℕ) → Option (List ℕ) → List ℕ → Type 0
+Ends (Ok done) before after input = IsAnswered replay 0 before after input
+Ends (Err Output) before after input = IsAnsweredInPart replay 0 before after input
+Ends (Err (BadLine number)) before after input =
+    IsBadAt number (lines input) × Wrote (λ whole. IsPlayedToBad (lines whole)) before after input
+Ends (Err InputTooLong) before after input =
+    IsTooLong input × Wrote (λ whole. IsPlayedInPart (lines whole)) before after input
+Ends (Err Input) before after input = Wrote (λ whole. IsPlayedInPart (lines whole)) before after input
+Ends (Err Memory) before after input = Wrote (λ whole. IsPlayedInPart (lines whole)) before after input
+Ends (Err Usage) before after input = ⊥
+
+-- the reply with these values, or the refusal of one for want of memory
+abbrev pub IsReply : ℕ → List Valued → List ℕ → Type 0
+IsReply time values text = (text ≡ reply time values) ⊎ (text ≡ refused_line OutOfMemory)

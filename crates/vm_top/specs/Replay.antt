@@ -1,0 +1,104 @@
+-- What a script does to a machine of one list, and what it prints.
+use Rattle.std.specs.Prelude.{◌≡◌, ℕ, nat_lt, length, List, [], ◌∷◌, ◌++◌, map, count_by, Option, Some, None, Result, Ok, Err, if◌then◌else◌}
+use Rattle.std.specs.Option.{is_none}
+use Rattle.vm_labels.specs.declared.row.Batch.{Batch}
+use Rattle.vm_labels.specs.declared.selector.Selector.{Selector}
+use Rattle.vm_machine.specs.Batches.{batches_of, row_count}
+use Rattle.vm_machine.specs.Machine.{State, Event, import, begin, read, end, close, Answer, accepted, Steps}
+use Rattle.vm_machine.specs.declared.question.Question.{Question}
+use Rattle.vm_machine.specs.declared.refusal.Refusal.{Refusal}
+use Rattle.vm_machine.specs.declared.refusal.Refusal.TheVariants.{BadRange, NotBuilt}
+use Rattle.vm_promtext.specs.Means.{rows_of_line}
+use Rattle.vm_script.specs.Expression.{selector_of}
+use Rattle.vm_script.specs.declared.command.Command.{Command}
+use Rattle.vm_script.specs.declared.command.Command.TheVariants.{Prom, Query, Run, End, Close}
+use Rattle.vm_top.specs.Printed.{printed, accepted_line, refused_line}
+use Rattle.vm_top.specs.Rows.{line_rows}
+use Rattle.vm_top.specs.Script.{Entry, Begins, IsScript, Breaks}
+
+-- a machine to which nothing happened yet
+abbrev pub blank : State
+blank = record { accepted = []; durable = 0; interval = 0; runs = [] }
+
+-- the question for a selector, if there is one
+abbrev pub asked_of : ℕ → Option Selector → Result Question Refusal
+asked_of time None = Err NotBuilt
+asked_of time (Some selector) = Ok (record { time = time; selector = selector })
+
+-- the question of a query, where its time is at most 2^48 - 1 and its expression can be read
+abbrev pub question_of : ℕ → List ℕ → Result Question Refusal
+question_of time expression =
+    if nat_lt 281474976710655 time then Err BadRange else asked_of time (selector_of expression)
+
+-- the machine does what an event asks, and its answer is printed
+pub record Answers (run : ℕ) (event : Event) (before now : State) (text : List ℕ) : Type 0 where
+  pub answer : Result Answer Refusal
+  pub steps : Steps before event now answer
+  pub text_is : text ≡ printed run answer
+
+-- batches are accepted, one after the other
+pub data Accepts : State → List Batch → State → Type 0 where
+  no_batch : (state : State) → Accepts state [] state
+  next_batch : (before mid now : State) (batches : List Batch) (batch : Batch) → Accepts before batches mid
+      → Steps mid (import batch) now (Ok accepted) → Accepts before (batches ++ batch ∷ []) now
+
+-- batches are accepted up to one that is refused
+pub record Refuses (before : State) (batches : List Batch) (now : State) (why : Refusal) : Type 0 where
+  pub first : List Batch
+  pub batch : Batch
+  pub more : List Batch
+  pub are : batches ≡ first ++ batch ∷ more
+  pub mid : State
+  pub accepts : Accepts before first mid
+  pub steps : Steps mid (import batch) now (Err why)
+
+-- the batches of a body that is read at a time
+abbrev pub batches : ℕ → List (List ℕ) → List Batch
+batches now body = batches_of (map (line_rows now) body)
+
+-- how many of its lines are skipped
+abbrev pub skipped : ℕ → List (List ℕ) → ℕ
+skipped now body = count_by (λ line. is_none (rows_of_line now line)) body
+
+-- the batches of a body are imported, all of them or up to the first that is refused
+pub data Imports (time : ℕ) (body : List (List ℕ)) (before : State) : State → List ℕ → Type 0 where
+  all_accepted : (now : State) → Accepts before (batches time body) now
+      → Imports time body before now
+      (accepted_line (length (batches time body)) (row_count (batches time body)) (skipped time body))
+  one_refused : (now : State) (why : Refusal) → Refuses before (batches time body) now why
+      → Imports time body before now (refused_line why)
+
+-- a command with a body is done, and this is printed
+abbrev pub Does : Command → List (List ℕ) → State → State → List ℕ → Type 0
+Does (Prom time) body before now text = Imports time body before now text
+Does (Query run time expression) body before now text =
+    Answers run (begin run (question_of time expression)) before now text
+Does (Run run) body before now text = Answers run (read run) before now text
+Does (End run) body before now text = Answers run (end run) before now text
+Does (Close run) body before now text = Answers run (close run) before now text
+
+abbrev pub Acts : Entry → State → State → List ℕ → Type 0
+Acts entry before now text = Does entry.command entry.body before now text
+
+-- commands are done, one after the other, and this is printed
+pub data Plays : List Entry → State → List ℕ → Type 0 where
+  no_command : Plays [] blank []
+  next_command : (entries : List Entry) (entry : Entry) (mid now : State) (texts text : List ℕ)
+      → Plays entries mid texts → Acts entry mid now text
+      → Plays (entries ++ entry ∷ []) now (texts ++ text)
+
+-- a text is what commands print
+abbrev pub IsPlayOf : List Entry → List ℕ → Type 0
+IsPlayOf entries text = (now : State) × Plays entries now text
+
+-- what all commands of a script print
+abbrev pub IsPlayed : List (List ℕ) → List ℕ → Type 0
+IsPlayed lines text = (entries : List Entry) × IsScript lines entries × IsPlayOf entries text
+
+-- what the first commands of a script print
+abbrev pub IsPlayedInPart : List (List ℕ) → List ℕ → Type 0
+IsPlayedInPart lines text = (entries : List Entry) × Begins lines entries × IsPlayOf entries text
+
+-- what all commands print before the first line outside the grammar
+abbrev pub IsPlayedToBad : List (List ℕ) → List ℕ → Type 0
+IsPlayedToBad lines text = (entries : List Entry) × Breaks lines entries × IsPlayOf entries text

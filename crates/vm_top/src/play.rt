@@ -1,0 +1,159 @@
+//! `replay`: the commands of a script, done one after the other as they are read.
+
+ghost use Rattle.std.specs.Prelude.{◌≡◌, ◌≤◌, ◌^◌, ◌+◌, ◌<◌, ℕ, List as ListOf, [], length, take, IfOk, IfErr, IfSome, Some, OnOk, OnErr, IsErrOf, ◌⊎◌};
+ghost use Rattle.std.specs.Option.{option_map};
+ghost use Rattle.vm_outside.specs.Outside.{Rose, Told};
+ghost use Rattle.vm_outside.specs.Outside as outside;
+ghost use Rattle.vm_script.specs.Command.{command_of, IsBounded};
+ghost use Rattle.vm_script.specs.declared.command.Command.TheVariants.{Prom};
+ghost use Rattle.vm_top.specs.Playing.{PlaysCommand, PlaysLine, IsBrokenBy, CanPlay, Ends};
+ghost use Rattle.vm_top.specs.Reading.{Takes, IsLineOf};
+
+use crate::act::{begin_query, close_run, end_run, import_body, read_series};
+use crate::body::read_body;
+use crate::fault::Fault;
+use crate::input_lines::InputLines;
+use std::alloc::{AllocError, Global};
+use vm_lines::Step;
+use vm_machine::Machine;
+use vm_outside::{Failed, Sink, Source, write_all};
+use vm_script::{Command, read_command};
+
+/// Plays a script on a machine to which nothing happened yet. What a command prints is written before
+/// the next command is read.
+pub fn play<S: Source, K: Sink>(alloc: Global, input: &mut S, output: &mut K) -> Result<(), Fault>
+    ensures ends { Told (S.left input.old) (Ends result (K.taken output.old) (K.taken output.new)) }
+    ensures read { OnOk result (S.left input.new ≡ option_map (λ _. []) (S.left input.old)) }
+    ensures known { IsErrOf result Fault.Usage → ⊥ }
+    ensures input_fault { IsErrOf result Fault.Input → Rose (S.faults input.old) (S.faults input.new) }
+    ensures output_fault { IsErrOf result Fault.Output →
+        Rose (K.faults output.old) (K.faults output.new) }
+    ensures input_counted { S.faults input.old ≤ S.faults input.new }
+    ensures output_counted { K.faults output.old ≤ K.faults output.new }
+{
+    let mut lines = InputLines::new(alloc)?;
+    let mut machine = Machine::new(alloc);
+    'lines: while let Some(step) = lines.advance(input)? {
+        let text = play_line(alloc, &mut machine, &mut lines, step, input)?;
+        write_text(output, &text)?;
+    }
+    Ok(())
+}
+
+fn write_text<K: Sink>(output: &mut K, text: &[u8]) -> Result<(), Fault>
+    ensures all { OnOk result (outside.Takes (K.taken output.old) text.now (K.taken output.new)) }
+    ensures part { OnErr result ((n : ℕ) × (n ≤ length text.now)
+        × outside.Takes (K.taken output.old) (take n text.now) (K.taken output.new)) }
+    ensures only { OnErr result (IsErrOf result Fault.Output) }
+    ensures failed { OnErr result (Rose (K.faults output.old) (K.faults output.new)) }
+    ensures counted { K.faults output.old ≤ K.faults output.new }
+{
+    match write_all(output, text) {
+        Ok(()) => Ok(()),
+        Err(Failed) => Err(Fault::Output),
+    }
+}
+
+/// Does the command of the line that was come to: what it prints.
+fn play_line<S: Source>(
+    alloc: Global,
+    machine: &mut Machine,
+    lines: &mut InputLines,
+    step: Step,
+    input: &mut S,
+) -> Result<Vec<u8>, Fault>
+    // What `Ok` holds.
+    ensures plays { IfOk result (λ text. (line : ListOf ℕ) → IsLineOf step lines.old.reading.line line
+        → PlaysLine line machine.old machine.new lines.old lines.new (S.left input.old) (S.left input.new) text.items) }
+
+    // When each error comes.
+    ensures broken { IfErr result (λ fault. (line : ListOf ℕ) → IsLineOf step lines.old.reading.line line
+        → IsBrokenBy fault (command_of line) lines.old (S.left input.old)) }
+    ensures known { IfErr result CanPlay }
+    ensures input_fault { IsErrOf result Fault.Input → Rose (S.faults input.old) (S.faults input.new) }
+    ensures too_long { IsErrOf result Fault.InputTooLong → Told (S.left input.old) (λ bytes.
+        2 ^ 62 ≤ lines.old.reading.taken + length bytes) }
+
+    // What each call does to the bytes.
+    ensures takes { Takes lines.old lines.new (S.left input.old) (S.left input.new) }
+    ensures counted { S.faults input.old ≤ S.faults input.new }
+{
+    let command = command_at(alloc, step, lines.line())?;
+    match command {
+        Some(command) => play_command(alloc, machine, lines, input, command),
+        None => Err(Fault::BadLine {
+            line: lines.number(),
+        }),
+    }
+}
+
+/// The command of the line that was come to.
+#[tactic(auto, using(crate::proofs::PlayLaws::command_of_long))]
+fn command_at(alloc: Global, step: Step, shown: &[u8]) -> Result<Option<Command>, AllocError>
+    ensures value { IfOk result (λ command. (line : ListOf ℕ) → IsLineOf step shown.now line
+        → command ≡ command_of line) }
+    ensures bounded { IfOk result (λ command. IfSome command IsBounded) }
+{
+    match step {
+        Step::Line => read_command(alloc, shown),
+        Step::TooLong | Step::End => Ok(None),
+    }
+}
+
+/// Does a command whose line was come to.
+fn play_command<S: Source>(
+    alloc: Global,
+    machine: &mut Machine,
+    lines: &mut InputLines,
+    input: &mut S,
+    command: Command,
+) -> Result<Vec<u8>, Fault>
+    requires { IsBounded command }
+    ensures plays { IfOk result (λ text. PlaysCommand command machine.old machine.new lines.old lines.new
+        (S.left input.old) (S.left input.new) text.items) }
+    ensures broken { IfErr result (λ fault. IsBrokenBy fault (Some command) lines.old (S.left input.old)) }
+    ensures known { IfErr result CanPlay }
+    ensures input_fault { IsErrOf result Fault.Input → Rose (S.faults input.old) (S.faults input.new) }
+    ensures too_long { IsErrOf result Fault.InputTooLong → Told (S.left input.old) (λ bytes.
+        2 ^ 62 ≤ lines.old.reading.taken + length bytes) }
+    ensures takes { Takes lines.old lines.new (S.left input.old) (S.left input.new) }
+    ensures counted { S.faults input.old ≤ S.faults input.new }
+{
+    match command {
+        Command::Prom { now } => play_import(alloc, machine, lines, input, now),
+        Command::Query {
+            run,
+            time,
+            expression,
+        } => Ok(begin_query(alloc, machine, run, time, expression.as_str())?),
+        Command::Run { run } => Ok(read_series(alloc, machine, run)?),
+        Command::End { run } => Ok(end_run(alloc, machine, run)?),
+        Command::Close { run } => Ok(close_run(alloc, machine, run)?),
+    }
+}
+
+/// Reads the body behind a `prom` whose line was come to, and imports it.
+fn play_import<S: Source>(
+    alloc: Global,
+    machine: &mut Machine,
+    lines: &mut InputLines,
+    input: &mut S,
+    now: u64,
+) -> Result<Vec<u8>, Fault>
+    requires { now < 2 ^ 48 }
+    ensures plays { IfOk result (λ text. PlaysCommand (Prom now) machine.old machine.new lines.old lines.new
+        (S.left input.old) (S.left input.new) text.items) }
+    ensures broken { IfErr result (λ fault. IsBrokenBy fault (Some (Prom now)) lines.old (S.left input.old)) }
+    ensures known { IfErr result CanPlay }
+    ensures input_fault { IsErrOf result Fault.Input → Rose (S.faults input.old) (S.faults input.new) }
+    ensures too_long { IsErrOf result Fault.InputTooLong → Told (S.left input.old) (λ bytes.
+        2 ^ 62 ≤ lines.old.reading.taken + length bytes) }
+    ensures takes { Takes lines.old lines.new (S.left input.old) (S.left input.new) }
+    ensures counted { S.faults input.old ≤ S.faults input.new }
+{
+    let line = lines.number();
+    match read_body(alloc, now, lines, input)? {
+        Some(body) => Ok(import_body(alloc, machine, body)?),
+        None => Err(Fault::BadLine { line }),
+    }
+}
