@@ -1,5 +1,5 @@
 -- What was done by a task, whatever its status.
-use Rattle.std.proofs.Common.{◌≡◌, ℕ, ◌≤◌, List, [], ◌∷◌, length, take, Option, Some, None, Result, Ok, Err, IsErrOf, refl, inl, inr, ◌⊎◌, rules}
+use Rattle.std.proofs.Common.{◌≡◌, ℕ, ◌≤◌, List, [], ◌∷◌, length, take, Option, Some, None, Result, Ok, Err, IsErrOf, OnOk, refl, inl, inr, ◌⊎◌, rules}
 use Rattle.vm_lines.specs.Lines.{lines}
 use Rattle.vm_outside.specs.Clock.{Answers}
 use Rattle.vm_outside.specs.Outside.{Told, Takes}
@@ -7,11 +7,12 @@ use Rattle.vm_outside.proofs.Streams.{takes_nothing}
 use Rattle.vm_top.specs.Answer.{last_answer}
 use Rattle.vm_top.specs.Playing.{Ends}
 use Rattle.vm_top.specs.Replay.{IsPlayedToBad, IsPlayedInPart}
-use Rattle.vm_top.specs.Statuses.{IsDone, IsAnswered, IsAnsweredInPart, IsShort, IsTooLong, IsCause, status_of, outcome}
+use Rattle.vm_top.specs.Statuses.{IsDone, IsAnswered, IsAnsweredInPart, IsShort, IsTooLong, HasNoBadLine, IsCause, status_of, outcome}
 use Rattle.vm_top.specs.Words.{last, replay}
 use Rattle.vm_top.specs.declared.fault.Fault.{Fault}
 use Rattle.vm_top.specs.declared.fault.Fault.TheVariants.{Usage, InputTooLong, BadLine, Input, Output, Memory}
 use Rattle.vm_top.specs.declared.status.Status.TheVariants as code
+use Rattle.vm_top.proofs.ScriptLaws.{no_bad_line}
 
 told_by : {A : Type 0} (told : Option A) (P Q : A → Type 0) → ((a : A) → P a → Q a) → Told told P → Told told Q
 told_by None P Q more p = tt
@@ -159,3 +160,10 @@ last_done name time now body clock_before clock_after left before after clock sh
         → Told left (IsAnswered (last name time) now before after)
     go None short is = tt
     go (Some input) short is = record { short = short; text = body; answers = is; written = written }
+
+-- a script that was played to its end has no bad line
+pub replay_whole : (result : Result Unit Fault) (left before after : Option (List ℕ)) → Told left (Ends result before after)
+    → OnOk result (Told left (HasNoBadLine (Some replay)))
+replay_whole (Ok done) left before after ends =
+    told_by left _ _ (λ input answered number bad. no_bad_line (lines input) answered.answers.0 number answered.answers.1 bad) ends
+replay_whole (Err fault) left before after ends = tt

@@ -6,4 +6,5 @@ mod LastLaws
 mod NoteLaws
 mod PlayLaws
 mod ReplyLaws
+mod ScriptLaws
 mod WordLaws

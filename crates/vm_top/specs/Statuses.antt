@@ -83,6 +83,12 @@ IsDoneBy None status clock_before clock_after left before after = (clock_after �
 IsDoneBy (Some task) status clock_before clock_after left before after =
     IsDone task status clock_before clock_after left before after
 
+-- no line of a script is outside the grammar
+abbrev pub HasNoBadLine : Option Task → List ℕ → Type 0
+HasNoBadLine None input = ⊤
+HasNoBadLine (Some (last name time)) input = ⊤
+HasNoBadLine (Some replay) input = (number : ℕ) → IsBadAt number (lines input) → ⊥
+
 -- why a fault comes, as far as the words and the input tell
 abbrev pub IsCause : Fault → Option Task → List ℕ → Type 0
 IsCause Usage task input = task ≡ None

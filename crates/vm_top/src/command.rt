@@ -3,7 +3,7 @@
 ghost use Rattle.std.specs.Prelude.{◌≡◌, ◌≢◌, ◌↔◌, ◌≤◌, [], None, Some, ◌<◌, ◌^◌, map, string_bytes, IfErr, OnOk, IsErrOf};
 ghost use Rattle.std.specs.Option.{option_map};
 ghost use Rattle.vm_outside.specs.Outside.{Rose, Told};
-ghost use Rattle.vm_top.specs.Statuses.{IsDone, IsDoneBy, IsCause, outcome};
+ghost use Rattle.vm_top.specs.Statuses.{IsDone, IsDoneBy, IsCause, HasNoBadLine, outcome};
 ghost use Rattle.vm_top.specs.Words.{asked, last};
 
 use crate::fault::Fault;
@@ -25,6 +25,7 @@ pub fn run<S: Source, K: Sink, C: Clock>(
     ensures done { IsDoneBy (asked (map string_bytes words.now)) (outcome result)
         (C.answers clock.old) (C.answers clock.new) (S.left input.old) (K.taken output.old) (K.taken output.new) }
     ensures read { OnOk result (S.left input.new ≡ option_map (λ _. []) (S.left input.old)) }
+    ensures whole { OnOk result (Told (S.left input.old) (HasNoBadLine (asked (map string_bytes words.now)))) }
 
     // When each error comes, and what was read and written then.
     ensures cause { IfErr result (λ fault. Told (S.left input.old)

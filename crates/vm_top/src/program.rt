@@ -3,7 +3,7 @@
 ghost use Rattle.std.specs.Prelude.{◌≡◌, ◌≢◌, ◌↔◌, ◌⊎◌, ◌≤◌, [], None, false, map, string_bytes};
 ghost use Rattle.std.specs.Option.{option_map};
 ghost use Rattle.vm_outside.specs.Outside.{Rose, Told};
-ghost use Rattle.vm_top.specs.Statuses.{IsDoneBy, IsNoted};
+ghost use Rattle.vm_top.specs.Statuses.{IsDoneBy, IsNoted, HasNoBadLine};
 ghost use Rattle.vm_top.specs.Words.{asked};
 
 use crate::command::run;
@@ -44,6 +44,9 @@ pub fn run_words<S: Source, K: Sink, N: Sink, D: Disk, L: Link, C: Clock, P: Pat
     ensures done { IsDoneBy (asked (map string_bytes words.now)) result
         (C.answers clock.old) (C.answers clock.new) (S.left input.old) (K.taken output.old) (K.taken output.new) }
     ensures read { result ≡ Status.Ok → S.left input.new ≡ option_map (λ _. []) (S.left input.old) }
+
+    ensures whole { result ≡ Status.Ok → Told (S.left input.old)
+        (HasNoBadLine (asked (map string_bytes words.now))) }
 
     // When each other status comes, and what was written then.
     ensures usage { (result ≡ Status.Usage) ↔ (asked (map string_bytes words.now) ≡ None) }
