@@ -1,11 +1,15 @@
 //! What a benchmark calls and the program doesn't: one call, many times, over the bytes of standard input.
 //!
 //! `promtext ROUNDS` reads each line by `vm_promtext::read_line`, and prints how many rows there were and how
-//! many lines were skipped. `copy ROUNDS` copies all bytes to another place in memory, which is the yardstick, and
+//! many lines were skipped. `decimals-OPERATION ROUNDS` calls an operation of `vm_decimal` on the two numbers of
+//! each line, and prints how many answers counted. `copy ROUNDS` copies all bytes to another place in memory, which is the yardstick, and
 //! prints how many it copied. With 0 rounds they take the time of reading the input. The scripts of `bench/`
 //! take the times.
 #![tactic(auto)]
 
+mod decimals;
+
+use crate::decimals::calculate;
 use anyhow::{Result, bail};
 use std::alloc::Global;
 use std::env;
@@ -36,7 +40,13 @@ fn main(rt: HostRuntime) -> Result<()> {
             let bytes = copy(alloc, &input, rounds)?;
             println!(rt; "bytes {bytes}")?;
         }
-        _ => bail!("usage"),
+        name => match name.strip_prefix("decimals-") {
+            Some(operation) => {
+                let counted = calculate(alloc, &input, operation, rounds)?;
+                println!(rt; "counted {counted}")?;
+            }
+            None => bail!("usage"),
+        },
     }
     Ok(())
 }

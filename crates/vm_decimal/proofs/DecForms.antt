@@ -1,5 +1,5 @@
 -- Numbers by their parts in normal form, for the proofs of those who use them.
-use Rattle.std.proofs.Common.{◌≡◌, ℕ, ◌+◌, ◌*◌, ◌%◌, ◌^◌, ◌≤◌, ◌&&◌, nat_lt, nat_le, ℤ, pos, ◌+ℤ◌, ◌-ℤ◌, Bool, false, Some, None, refl, ap, sym, ◌∙◌, ⊎_elim, arith}
+use Rattle.std.proofs.Common.{◌≡◌, ℕ, ◌+◌, ◌*◌, ◌%◌, ◌^◌, ◌≤◌, ◌&&◌, nat_lt, nat_le, ℤ, pos, ◌+ℤ◌, ◌-ℤ◌, Bool, true, false, Some, None, refl, ap, sym, ◌∙◌, ⊎_elim, arith}
 use Rattle.std.proofs.lemmas.Bool.{cases_eq}
 use Rattle.std.proofs.lemmas.Bool.Decides.{nat_tests}
 use Rattle.std.proofs.lemmas.Int.{ints}
@@ -7,7 +7,7 @@ use Rattle.vm_base.specs.Form.{form_of-number}
 use Rattle.vm_base.specs.Number.{signed, number, form_of}
 use Rattle.vm_base.specs.Sample.{mantissa, exponent, sample_of}
 use Rattle.vm_base.proofs.NumberLaws.{signed-zero, scaled-up}
-use Rattle.vm_decimal.specs.Dec.{dec_of, as_sample, IsDecForm}
+use Rattle.vm_decimal.specs.Dec.{is_dec, dec_of, as_sample, IsDecForm}
 use Rattle.vm_decimal.specs.declared.dec.Dec.TheInside.{Inside}
 use Rattle.vm_decimal.proofs.Decs.{dec_of-placed, dec_of-zero, placed_within}
 
@@ -62,3 +62,12 @@ pub as_sample-form : (minus : Bool) (size shift : ℕ) (e : ℤ) → e ≡ pos s
 as_sample-form minus size shift e is =
     let at : e +ℤ pos 1000 ≡ pos shift = omega (arith, ints) in
     rw (scaled-up minus size shift e at) refl
+
+-- a number in normal form is within the limits
+pub is_dec-form : (minus : Bool) (size shift : ℕ) → IsDecForm minus size shift
+    → is_dec (number minus size shift) ≡ true
+is_dec-form minus size shift form =
+    let few = form.few in
+    let high = form.high in
+    let yes : (nat_lt size (10 ^ 38) && nat_le shift 2000) ≡ true = grind (arith, nat_tests) in
+    rw (form_of-dec minus size shift form) yes

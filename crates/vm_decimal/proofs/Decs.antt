@@ -184,3 +184,14 @@ pub in_range-up : (minus : Bool) (size shift : ℕ) {e : ℤ} {found : Option �
     → found ≡ dec_of (signed minus size) e → e ≡ pos shift -ℤ pos 1000
     → found ≡ in_range (number minus size shift)
 in_range-up minus size shift {e} found is = found ∙ dec_of-up minus size shift e is
+
+-- nor with too great an exponent
+pub placed_high : (minus : Bool) (size shift : ℕ) → 2000 < shift → placed minus size (pos shift) ≡ None
+placed_high minus size shift far =
+    let high : int_le (pos shift) (pos 2000) ≡ false = grind (arith, nat_tests) in
+    rw high (none_high (nat_lt size (10 ^ 38)) (int_le (pos 0) (pos shift)) (Some (number minus size shift)))
+  where
+    none_high : (a b : Bool) (found : Option ℤ) → (if a && b && false then found else None) ≡ None
+    none_high true true found = refl
+    none_high true false found = refl
+    none_high false b found = refl

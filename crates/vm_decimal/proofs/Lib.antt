@@ -1,8 +1,13 @@
+pub mod ArithmeticLaws
 pub mod Decs
 pub mod DecForms
+pub mod DecReadings
+mod Divisions
+mod Exacts
 pub mod NumberReadings
 mod NumberTexts
 mod Orders
+pub mod PrintedTexts
 mod Products
 mod QuickDigits
 mod ReadNumbers
@@ -15,4 +20,5 @@ pub mod SampleTexts
 mod Sizes
 mod Spellings
 mod Sums
+mod Wholes
 mod WordLaws

@@ -11,13 +11,14 @@ use Rattle.std.proofs.lemmas.List.{take_more, take_rest, take-append-drop, lengt
 use Rattle.vm_base.specs.Form.{unsigned_abs-signed}
 use Rattle.vm_base.specs.Number.{signed}
 use Rattle.vm_base.specs.Sample.{sample_of}
-use Rattle.vm_decimal.specs.Quick.{BeginsQuick, FewDigits, SignedPower, QuickPower, QuickValue}
+use Rattle.vm_decimal.specs.Quick.{BeginsQuick, FewDigits, SignedPower, QuickPower, QuickValue, SpellsQuick, spelling_of}
 use Rattle.vm_decimal.specs.Rounded.{sample_value}
 use Rattle.vm_decimal.specs.SampleText.{number_reading, valued}
-use Rattle.vm_decimal.specs.Spelled.{IsDigits, IsSign, IsNumber}
+use Rattle.vm_decimal.specs.Spelled.{IsDigits, IsSign}
 use Rattle.vm_decimal.proofs.NumberReadings.{number_reading-number}
 use Rattle.vm_decimal.proofs.Roundings.{surplus-short, nearest-one}
-use Rattle.vm_decimal.proofs.SampleDigits.{spelling, sample_of_digits-sample_of}
+use Rattle.vm_decimal.specs.declared.quick.QuickNumber.{QuickNumber}
+use Rattle.vm_decimal.proofs.SampleDigits.{sample_of_digits-sample_of}
 use Rattle.vm_decimal.proofs.Spellings.{value_append, digit_is}
 
 -- one digit more
@@ -213,54 +214,60 @@ pub marked_some : (text rest : List ℕ) (b : ℕ) (found : Option ℤ) → text
 marked_some text rest b None parts letter is = tt
 marked_some text rest b (Some power) parts letter is = marked_power text rest b power parts letter is
 
--- the sample of what was found
-pub found_some : (negative : Bool) (text rest : List ℕ) (size places len : ℕ) (power : ℤ) (found : Option ℤ)
-    → BeginsQuick text size places len → rest ≡ take (length text - len) (drop len text)
-    → QuickPower rest power → found ≡ sample_of (signed negative size) (power -ℤ pos places)
-    → IfSome found (QuickValue negative text)
-found_some negative text rest size places len power None front rest_is p is = tt
-found_some negative text rest size places len power (Some z) front rest_is p is = record {
-  size = size;
+-- the number of what was found
+pub quick_found : (negative : Bool) (text rest : List ℕ) (n : QuickNumber) (places len : ℕ) (power : ℤ)
+    → n.negative ≡ negative → BeginsQuick text n.size places len
+    → rest ≡ take (length text - len) (drop len text) → QuickPower rest power
+    → n.exponent ≡ power -ℤ pos places → QuickValue negative text n
+quick_found negative text rest n places len power sign front rest_is p is = record {
   places = places;
   len = len;
   power = power;
   rest = rest;
+  sign = sign;
   parts = sym (take-append-drop len text) ∙ ap (λ t. take len text ++ t) (sym (rest_is ∙ take_rest text len));
   mantissa = front.is;
   exponent = p.is;
-  is = sym is;
+  is = is;
 }
 
--- the sample of a mantissa with its sign
-pub quick_is : (negative : Bool) (whole sign text : List ℕ) (z : ℤ) → whole ≡ sign ++ text
-    → IsSign negative sign → QuickValue negative text z → valued (number_reading whole) ≡ Ok (Some z)
-quick_is negative whole sign text z parts a_sign q =
-    let size = q.size in
+-- with its sign
+pub quick_spells : (negative : Bool) (whole sign text : List ℕ) (n : QuickNumber) → whole ≡ sign ++ text
+    → IsSign negative sign → QuickValue negative text n → SpellsQuick whole n
+quick_spells negative whole sign text n parts a_sign q =
     let quick = q.mantissa in
-    let exponent : ℤ = q.power -ℤ pos q.places in
-    let number : IsNumber whole (spelling negative size exponent) = record {
-      sign = sign;
-      mantissa = take q.len text;
-      exponent = q.rest;
-      places = q.places;
-      power = q.power;
-      parts = parts ∙ ap (λ t. sign ++ t) q.parts;
-      a_sign = a_sign;
-      a_mantissa = quick.mantissa;
-      an_exponent = q.exponent;
-      exponent_is = refl;
-    } in
-    let few = quick.few in
-    let none = surplus-short size few in
-    let last : exponent +ℤ pos 0 ≡ exponent = omega (arith, ints) in
-    let value : sample_value (spelling negative size exponent) ≡ Some z =
-    rw (none, nearest-one size, last)
-    (sample_of_digits-sample_of negative size exponent (omega arith) ∙ q.is) in
-    ap valued (number_reading-number whole (spelling negative size exponent) number) ∙ ap Ok value
+    record {
+      is = record {
+        sign = sign;
+        mantissa = take q.len text;
+        exponent = q.rest;
+        places = q.places;
+        power = q.power;
+        parts = parts ∙ ap (λ t. sign ++ t) q.parts;
+        a_sign = subst (λ s. IsSign s sign) (sym q.sign) a_sign;
+        a_mantissa = quick.mantissa;
+        an_exponent = q.exponent;
+        exponent_is = q.is;
+      };
+      few = quick.few;
+    }
 
-pub quick_some : (negative : Bool) (whole sign text : List ℕ) (found : Option ℤ) → whole ≡ sign ++ text
-    → IsSign negative sign → IfSome found (QuickValue negative text)
-    → IfSome found (λ z. valued (number_reading whole) ≡ Ok (Some z))
+pub quick_some : (negative : Bool) (whole sign text : List ℕ) (found : Option QuickNumber) → whole ≡ sign ++ text
+    → IsSign negative sign → IfSome found (QuickValue negative text) → IfSome found (SpellsQuick whole)
 quick_some negative whole sign text None parts a_sign is = tt
-quick_some negative whole sign text (Some z) parts a_sign is =
-    quick_is negative whole sign text z parts a_sign is
+quick_some negative whole sign text (Some n) parts a_sign is =
+    quick_spells negative whole sign text n parts a_sign is
+
+-- the sample of a number of few digits
+pub quick_sample : (text : List ℕ) (n : QuickNumber) (found : Option ℤ) → SpellsQuick text n
+    → found ≡ sample_of (signed n.negative n.size) n.exponent
+    → IfSome found (λ z. valued (number_reading text) ≡ Ok (Some z))
+quick_sample text n None spells is = tt
+quick_sample text n (Some z) spells is =
+    let few = spells.few in
+    let none = surplus-short n.size few in
+    let last : n.exponent +ℤ pos 0 ≡ n.exponent = omega (arith, ints) in
+    let value : sample_value (spelling_of n) ≡ Some z =
+    rw (none, nearest-one n.size, last)
+    (sample_of_digits-sample_of n.negative n.size n.exponent (omega arith) ∙ sym is) in
+    ap valued (number_reading-number text (spelling_of n) spells.is) ∙ ap Ok value

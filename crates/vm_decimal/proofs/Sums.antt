@@ -87,14 +87,16 @@ summed false x true y less = record { size = x - y; is = omega (arith, ints); fa
 summed true x false y less = record { size = x - y; is = omega (arith, ints); far = omega arith }
 
 -- a number with some of its noughts before its size's end
+pub lowered_size : (size high low raised : ℕ) → low ≤ high → raised ≡ size * 10 ^ (high - low)
+    → size * 10 ^ high ≡ raised * 10 ^ low
+lowered_size size high low raised over is =
+    let split : high ≡ high - low + low = omega arith in
+    ap (λ n. size * 10 ^ n) split ∙ ap (λ n. size * n) (pow-add 10 (high - low) low)
+    ∙ sym (mul_assoc size (10 ^ (high - low)) (10 ^ low)) ∙ ap (λ n. n * 10 ^ low) (sym is)
+
 pub lowered : (a : Bool) (size high low raised : ℕ) → low ≤ high → raised ≡ size * 10 ^ (high - low)
     → number a size high ≡ number a raised low
-lowered a size high low raised over is =
-    let split : high ≡ high - low + low = omega arith in
-    let whole : size * 10 ^ high ≡ size * 10 ^ (high - low) * 10 ^ low =
-    ap (λ n. size * 10 ^ n) split ∙ ap (λ n. size * n) (pow-add 10 (high - low) low)
-    ∙ sym (mul_assoc size (10 ^ (high - low)) (10 ^ low)) in
-    ap (signed a) (whole ∙ ap (λ n. n * 10 ^ low) (sym is))
+lowered a size high low raised over is = ap (signed a) (lowered_size size high low raised over is)
 
 pub ends_with_nought : (size high low raised : ℕ) → low < high → raised ≡ size * 10 ^ (high - low)
     → raised % 10 ≡ 0

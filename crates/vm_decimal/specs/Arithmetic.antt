@@ -1,11 +1,23 @@
 -- What calculation gives. Numbers are counted in units of 10^-1000, so the sum, the difference and the
 -- remainder of two are those of whole numbers, and `in_range` says which of them are numbers again.
-use Rattle.std.specs.Prelude.{ℕ, ◌+◌, ◌-◌, ◌*◌, ◌^◌, nat_lt, ℤ, pos, negsuc, ◌*ℤ◌, int_rem, unsigned_abs, Bool, true, false, Option, Some, None, option_map, if◌then◌else◌}
-use Rattle.std.specs.Int.{is_negative}
+use Rattle.std.specs.Prelude.{ℕ, ◌+◌, ◌-◌, ◌*◌, ◌^◌, nat_lt, ℤ, pos, negsuc, neg_ℤ, ◌-ℤ◌, ◌*ℤ◌, int_rem, unsigned_abs, Bool, true, false, Option, Some, None, option_map, if◌then◌else◌}
+use Rattle.std.specs.Int.{is_negative, int_rem_euclid}
 use Rattle.std.specs.Ordering.{int_eq}
 use Rattle.vm_base.specs.Number.{signed, form_of}
 use Rattle.vm_base.specs.Rounding.{nearest}
 use Rattle.vm_decimal.specs.Dec.{in_range, dec_of}
+
+-- 1 in units of 10^-1000
+unfoldable pub ones : ℕ
+ones = 10 ^ 1000
+
+-- the greatest whole number that isn't above z: z less what it has behind the point, which isn't below 0
+unfoldable pub floor_of : ℤ → ℤ
+floor_of z = z -ℤ int_rem_euclid z (pos ones)
+
+-- the least whole number that isn't below z
+unfoldable pub ceil_of : ℤ → ℤ
+ceil_of z = neg_ℤ (floor_of (neg_ℤ z))
 
 -- a product of counts in units of 10^-1000 counts units of 10^-2000
 unfoldable pub product : ℤ → ℤ → Option ℤ

@@ -1,5 +1,9 @@
 pub mod Arithmetic
+pub mod ArithmeticLaws
 pub mod Dec
+pub mod DecText
+pub mod Division
+pub mod Exact
 pub mod Leading
 pub mod NumberMachine
 pub mod NumberText

@@ -1,9 +1,9 @@
 -- What the fast way finds. Only inner contracts cite it.
-use Rattle.std.specs.Prelude.{◌≡◌, ℕ, ◌<◌, ◌≤◌, ◌^◌, ℤ, pos, ◌-ℤ◌, unsigned_abs, Bool, List, ◌++◌, length, take, Some}
+use Rattle.std.specs.Prelude.{◌≡◌, ℕ, ◌<◌, ◌≤◌, ◌^◌, ℤ, pos, ◌-ℤ◌, unsigned_abs, Bool, List, ◌++◌, length, take}
 use Rattle.std.specs.Str.Parse.{digits_value}
 use Rattle.vm_base.specs.Number.{signed}
-use Rattle.vm_base.specs.Sample.{sample_of}
-use Rattle.vm_decimal.specs.Spelled.{IsDigits, IsSign, IsMantissa, IsOptionalExponent}
+use Rattle.vm_decimal.specs.Spelled.{Spelled, IsDigits, IsSign, IsMantissa, IsOptionalExponent, IsNumber}
+use Rattle.vm_decimal.specs.declared.quick.QuickNumber.{QuickNumber}
 
 -- a mantissa of at most 18 digits
 pub record IsQuick (text : List ℕ) (size places : ℕ) : Type 0 where
@@ -39,14 +39,22 @@ pub record QuickPower (text : List ℕ) (power : ℤ) : Type 0 where
   pub is : IsOptionalExponent text power
   pub few : unsigned_abs power < 10 ^ 4
 
--- a sample of these
-pub record QuickValue (negative : Bool) (text : List ℕ) (z : ℤ) : Type 0 where
-  pub size : ℕ
+-- a number of these
+pub record QuickValue (negative : Bool) (text : List ℕ) (n : QuickNumber) : Type 0 where
   pub places : ℕ
   pub len : ℕ
   pub power : ℤ
   pub rest : List ℕ
+  pub sign : n.negative ≡ negative
   pub parts : text ≡ take len text ++ rest
-  pub mantissa : IsQuick (take len text) size places
+  pub mantissa : IsQuick (take len text) n.size places
   pub exponent : IsOptionalExponent rest power
-  pub is : sample_of (signed negative size) (power -ℤ pos places) ≡ Some z
+  pub is : n.exponent ≡ power -ℤ pos places
+
+-- as a text spells it
+abbrev pub spelling_of : QuickNumber → Spelled
+spelling_of n = record { negative = n.negative; digits = n.size; exponent = n.exponent }
+
+pub record SpellsQuick (text : List ℕ) (n : QuickNumber) : Type 0 where
+  pub is : IsNumber text (spelling_of n)
+  pub few : n.size < 10 ^ 18

@@ -1,7 +1,7 @@
-ghost use Rattle.std.specs.Prelude.{◌≡◌, ◌%◌, ◌<◌, ◌≤◌, ◌^◌, Some, pos, negsuc, ◌+ℤ◌, ◌-ℤ◌, ◌≤ℤ◌, ◌++◌, unsigned_abs, OnOk, OnErr};
+ghost use Rattle.std.specs.Prelude.{◌≡◌, ◌%◌, ◌<◌, ◌≤◌, ◌^◌, Some, pos, negsuc, ◌+ℤ◌, ◌-ℤ◌, ◌≤ℤ◌, ◌++◌, unsigned_abs, IsTrue, OnOk, OnErr};
 ghost use Rattle.vm_base.specs.Number.{signed, number};
 ghost use Rattle.vm_base.specs.Sample.{mantissa as mantissa_of, exponent};
-ghost use Rattle.vm_decimal.specs.Dec.{dec_of, in_range, as_sample};
+ghost use Rattle.vm_decimal.specs.Dec.{IsDecForm, is_dec, dec_of, in_range, as_sample};
 ghost use Rattle.vm_decimal.specs.Parts.{placed as number_placed, value, IsBare};
 ghost use Rattle.vm_decimal.specs.NumberText.{number_text};
 
@@ -84,6 +84,7 @@ impl Dec {
         ensures low { negsuc 999 ≤ℤ result.1 }
         ensures high { result.1 ≤ℤ pos 1000 }
         ensures whole { dec_of result.0 result.1 ≡ Some self }
+        ensures dec { IsTrue (is_dec self) }
     {
         (with_sign(self.negative, self.size), exponent_of(self.shift))
     }
@@ -92,6 +93,7 @@ impl Dec {
     #[inline]
     pub(crate) fn in_parts(self) -> Parts
         ensures value { value result ≡ self }
+        ensures form { IsDecForm result.negative result.size result.shift }
         ensures bare { IsBare result.size result.shift }
     {
         Parts {

@@ -1,5 +1,6 @@
 //! A number by its sign, its size and its shift.
 ghost use Rattle.std.specs.Prelude.{◌≡◌, ◌*◌, ◌%◌, ◌^◌, ◌<◌, ◌≤◌, IfSome, IfNone};
+ghost use Rattle.vm_decimal.specs.Arithmetic.{differ as signs_differ};
 
 /// `size * 10^shift`.
 #[derive(Clone, Copy)]
@@ -79,4 +80,12 @@ pub(crate) fn raised(size: u128, gap: u16) -> Option<u128>
         return Some(size * u128::from(10u64.pow(gap)));
     }
     size.checked_mul(10u128.pow(gap))
+}
+
+/// Whether two signs differ.
+#[inline]
+pub(crate) fn differ(one: bool, two: bool) -> bool
+    ensures { result ≡ signs_differ one two }
+{
+    if one { !two } else { two }
 }

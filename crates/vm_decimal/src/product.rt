@@ -1,11 +1,11 @@
 //! Products.
 ghost use Rattle.std.specs.Prelude.{◌≡◌, ◌+◌, ◌*◌, ◌%◌, ◌^◌, ◌==◌, ◌<◌, pos, negsuc, ◌+ℤ◌};
 ghost use Rattle.std.specs.Result.{result_ok};
-ghost use Rattle.vm_decimal.specs.Arithmetic.{product as product_of, differ as signs_differ};
+ghost use Rattle.vm_decimal.specs.Arithmetic.{product as product_of};
 ghost use Rattle.vm_decimal.specs.Parts.{IsBare, value};
 
 use crate::dec::{Dec, Range, in_form};
-use crate::parts::Parts;
+use crate::parts::{Parts, differ};
 
 /// Two factors without the twos of the first and the fives of the second that make tens together, and
 /// how many these are.
@@ -52,12 +52,6 @@ fn product_shift(one: u16, two: u16, tens: u16) -> i32
     ensures { result ≡ negsuc 1999 +ℤ pos (1000 + (tens + (one + two))) }
 {
     i32::from(one) + i32::from(two) + i32::from(tens) - 1000
-}
-
-fn differ(one: bool, two: bool) -> bool
-    ensures { result ≡ signs_differ one two }
-{
-    if one { !two } else { two }
 }
 
 /// The first factor without its twos and the second without its fives, as long as both have one.

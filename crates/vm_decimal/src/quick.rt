@@ -3,7 +3,8 @@
 ghost use Rattle.std.specs.Prelude.{◌≡◌, ◌+◌, ◌*◌, ◌^◌, ◌<◌, ◌≤◌, pos, ◌-ℤ◌, Some, Ok, IfSome, length, take, unsigned_abs};
 ghost use Rattle.std.specs.Str.Parse.{digits_value_after};
 ghost use Rattle.vm_base.specs.Number.{signed};
-ghost use Rattle.vm_decimal.specs.Quick.{BeginsQuick, QuickValue, QuickPower, SignedPower, FewDigits};
+ghost use Rattle.vm_base.specs.Sample.{sample_of as sample_for};
+ghost use Rattle.vm_decimal.specs.Quick.{BeginsQuick, QuickValue, SpellsQuick, QuickPower, SignedPower, FewDigits};
 ghost use Rattle.vm_decimal.specs.SampleText.{number_reading, valued};
 ghost use Rattle.vm_decimal.specs.Spelled.{IsDigits};
 
@@ -18,26 +19,52 @@ struct Mantissa {
     len: usize,
 }
 
-/// The sample of an optional `-`, 1 to 18 digits with at most one point among or beside them, and
-/// perhaps an exponent. Of other texts it gives none.
+/// A number of at most 18 digits: `size * 10^exponent`, or that below zero.
+#[derive(Clone, Copy)]
+pub(crate) struct QuickNumber {
+    pub(crate) negative: bool,
+    pub(crate) size: u64,
+    pub(crate) exponent: i16,
+}
+
+/// The sample of a text that `quick_number` reads. Of other texts it gives none.
 pub(crate) fn quick_value(text: &[u8]) -> Option<Sample>
     ensures { IfSome result (λ z. valued (number_reading text.now) ≡ Ok (Some z)) }
 {
+    let number = quick_number(text)?;
+    sample_of(number)
+}
+
+fn sample_of(number: QuickNumber) -> Option<Sample>
+    requires { number.size < 10 ^ 18 }
+    ensures { result ≡ sample_for (signed number.negative number.size) number.exponent }
+{
+    Sample::of(with_sign(number.negative, number.size), number.exponent)
+}
+
+/// The number of an optional `-`, 1 to 18 digits with at most one point among or beside them, and
+/// perhaps an exponent of at most 4 digits. Of other texts it gives none.
+#[inline]
+pub(crate) fn quick_number(text: &[u8]) -> Option<QuickNumber>
+    ensures { IfSome result (λ n. SpellsQuick text.now n) }
+{
     match text {
-        [b'-', rest @ ..] => unsigned_value(true, rest),
-        _ => unsigned_value(false, text),
+        [b'-', rest @ ..] => unsigned_number(true, rest),
+        _ => unsigned_number(false, text),
     }
 }
 
-fn unsigned_value(negative: bool, text: &[u8]) -> Option<Sample>
-    ensures { IfSome result (λ z. QuickValue negative text.now z) }
+#[inline]
+fn unsigned_number(negative: bool, text: &[u8]) -> Option<QuickNumber>
+    ensures { IfSome result (λ n. QuickValue negative text.now n) }
 {
     let mantissa = mantissa_in(text)?;
     let power = power_in(&text[mantissa.len..])?;
-    Sample::of(
-        with_sign(negative, mantissa.size),
-        last_exponent(power, mantissa.places),
-    )
+    Some(QuickNumber {
+        negative,
+        size: mantissa.size,
+        exponent: last_exponent(power, mantissa.places),
+    })
 }
 
 /// The exponent of a number's last digit, which stands so many places behind the point.

@@ -123,7 +123,7 @@ pub(crate) fn value(reader: &Reader) -> Option<Sample>
 }
 
 /// The exponent of ten of a number's last digit.
-fn last_exponent(down: bool, power: u128, places: u64) -> i128
+pub(crate) fn last_exponent(down: bool, power: u128, places: u64) -> i128
     requires { power < 10 ^ 32 }
     ensures { result ≡ signed down power -ℤ pos places }
 {

@@ -1,8 +1,8 @@
-use Rattle.std.proofs.Common.{rules, Some, pos, ◌-ℤ◌, ap, ap₂, ◌∙◌, arith, w16}
+use Rattle.std.proofs.Common.{rules, Some, pos, ◌-ℤ◌, ap, ap₂, sym, ◌∙◌, arith, w16}
 use Rattle.std.proofs.lemmas.Int.{ints, to_z-of_z}
 use Rattle.std.specs.Int.{w128}
-use Rattle.vm_decimal.specs.Dec.{dec_of}
-use Rattle.vm_decimal.proofs.DecForms.{mantissa_is, exponent_is, dec_of-form}
+use Rattle.vm_decimal.specs.Dec.{dec_of, is_dec}
+use Rattle.vm_decimal.proofs.DecForms.{mantissa_is, exponent_is, dec_of-form, is_dec-form}
 use Rattle.vm_decimal.proofs.dec.Dec.parts.Goals as goal
 
 pub returns-clause-mantissa : goal.returns-clause-mantissa
@@ -23,3 +23,8 @@ returns-clause-whole c =
     ap₂ dec_of m e
     ∙ dec_of-form s.negative s.size s.shift (pos s.shift -ℤ pos 1000) c.self.invariant (omega (arith, ints))
     ∙ ap Some c.self.view_is
+
+pub returns-clause-dec : goal.returns-clause-dec
+returns-clause-dec c =
+    let s = c.self.inside in
+    ap is_dec (sym c.self.view_is) ∙ is_dec-form s.negative s.size s.shift c.self.invariant
