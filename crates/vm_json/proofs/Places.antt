@@ -5,7 +5,7 @@ use Rattle.std.proofs.Math.ListN.{get_or}
 use Rattle.std.proofs.lemmas.List.{take_more, take-append-drop, length-take-le}
 use Rattle.vm_base.specs.Run.{run, reading}
 use Rattle.vm_base.proofs.RunLaws.{run-append, reading-stuck, reading-end}
-use Rattle.vm_json.specs.Machine.{State, step, final, start, json_reading, at, ends}
+use Rattle.vm_json.specs.Machine.{State, step, final, start, json_reading, wrong_place, at, ends}
 use Rattle.vm_json.specs.declared.nesting.Bracket.{Bracket}
 use Rattle.vm_json.specs.declared.phase.Phase.{Phase}
 use Rattle.std.specs.Prelude.{◌==◌}
@@ -53,3 +53,11 @@ ends_not p inside not_done = rw not_done refl
 
 pub open_there : (p : Phase) (inside : List Bracket) → ends p ≡ true → (length inside == 0) ≡ false → final (at p inside) ≡ None
 open_there p inside done not_closed = rw (done, not_closed) refl
+
+pub wrong_none : (text : List ℕ) → json_reading text ≡ Ok tt → None ≡ wrong_place text
+unfolding wrong_place
+wrong_none text is = rw is refl
+
+pub wrong_some : (text : List ℕ) (n : ℕ) → json_reading text ≡ Err n → Some n ≡ wrong_place text
+unfolding wrong_place
+wrong_some text n is = rw is refl

@@ -1,11 +1,11 @@
 -- The machine reads JSON texts and nothing else, and stops at the first wrong place of others.
-use Rattle.std.specs.Prelude.{◌≡◌, ℕ, List, [], ◌∷◌, Ok, Err, Bool, true, false}
-use Rattle.std.proofs.Common.{refl}
+use Rattle.std.specs.Prelude.{◌≡◌, ℕ, List, [], ◌∷◌, Result, Ok, Err, Bool, true, false, Option, Some, None}
+use Rattle.std.proofs.Common.{refl, ap, subst, ◌∙◌}
 use Rattle.vm_base.specs.FirstWrong.{FirstWrong}
 use Rattle.vm_base.specs.Run.{IsRead, reading}
-use Rattle.vm_base.proofs.RunLaws.{result-reading, reading-result, FirstWrong-reading, FirstWrong-same}
+use Rattle.vm_base.proofs.RunLaws.{result-reading, reading-result, FirstWrong-reading, FirstWrong-same, none_wrong, one_place}
 use Rattle.vm_json.specs.Grammar.{IsJson}
-use Rattle.vm_json.specs.Machine.{State, at, step, final, start, json_reading}
+use Rattle.vm_json.specs.Machine.{State, at, step, final, start, json_reading, wrong_in, wrong_place}
 use Rattle.vm_json.specs.declared.nesting.Bracket.{Bracket}
 use Rattle.vm_json.specs.declared.nesting.Bracket.TheVariants.{Square, Curly}
 use Rattle.vm_json.specs.declared.phase.Phase.{Phase}
@@ -123,3 +123,32 @@ wrong_reading text at reads =
 pub json_wrong : (text : List ℕ) (at : ℕ) → json_reading text ≡ Err at → FirstWrong IsJson text at
 unfolding json_reading
 json_wrong text at reads = wrong_reading text at reads
+
+-- the place where a text is not JSON, and none where it is
+pub json_there : (text : List ℕ) → wrong_place text ≡ None → IsJson text
+unfolding wrong_place
+json_there text none = go (json_reading text) refl none
+  where
+    go : (r : Result (Unit {0}) ℕ) → json_reading text ≡ r → wrong_in r ≡ None → IsJson text
+    go (Ok whole) is none = json_from_reading text is
+    go (Err at) is none = absurd (cc none)
+
+pub place_there : (text : List ℕ) (at : ℕ) → wrong_place text ≡ Some at → FirstWrong IsJson text at
+unfolding wrong_place
+place_there text at some = go (json_reading text) refl some
+  where
+    go : (r : Result (Unit {0}) ℕ) → json_reading text ≡ r → wrong_in r ≡ Some at → FirstWrong IsJson text at
+    go (Ok whole) is some = absurd (cc some)
+    go (Err n) is some = let same : n ≡ at = cc in subst (FirstWrong IsJson text) same (json_wrong text n is)
+
+-- and back
+pub none_there : (text : List ℕ) → IsJson text → wrong_place text ≡ None
+unfolding wrong_place
+none_there text is = rw (reading_from_json text is) refl
+
+pub some_there : (text : List ℕ) (at : ℕ) → FirstWrong IsJson text at → wrong_place text ≡ Some at
+some_there text at first = go (wrong_place text) refl
+  where
+    go : (o : Option ℕ) → wrong_place text ≡ o → wrong_place text ≡ Some at
+    go None is = absurd (none_wrong IsJson text at (json_there text is) first)
+    go (Some n) is = is ∙ ap Some (one_place IsJson text n at (place_there text n is) first)

@@ -1,6 +1,6 @@
 -- A machine that reads JSON texts, one byte at a time. What it reads is what `specs/Grammar.antt` says:
 -- that is proved.
-use Rattle.std.specs.Prelude.{ℕ, ◌==◌, ◌&&◌, nat_lt, Bool, true, false, List, [], ◌∷◌, length, drop, Option, Some, None, is_some, Result, if◌then◌else◌}
+use Rattle.std.specs.Prelude.{ℕ, ◌==◌, ◌&&◌, nat_lt, Bool, true, false, List, [], ◌∷◌, length, drop, Option, Some, None, is_some, Result, Ok, Err, if◌then◌else◌}
 use Rattle.std.specs.Int.{is_in_range}
 use Rattle.std.specs.Option.{option_map}
 use Rattle.vm_base.specs.Run.{reading}
@@ -219,3 +219,11 @@ start = at Wanted []
 -- a text that is read to its end, or the place where it is not
 unfoldable pub json_reading : List ℕ → Result (Unit {0}) ℕ
 json_reading text = reading step final start text
+
+abbrev pub wrong_in : Result (Unit {0}) ℕ → Option ℕ
+wrong_in (Ok whole) = None
+wrong_in (Err at) = Some at
+
+-- the place where a text is not JSON
+unfoldable pub wrong_place : List ℕ → Option ℕ
+wrong_place text = wrong_in (json_reading text)

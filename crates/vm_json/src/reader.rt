@@ -1,9 +1,9 @@
 //! Where bytes leave the grammar of JSON texts.
 
-ghost use Rattle.std.specs.Prelude.{◌≡◌, Ok, Err, IfNone, IfSome};
+ghost use Rattle.std.specs.Prelude.{◌≡◌, IfNone, IfSome};
 ghost use Rattle.vm_base.specs.FirstWrong.{FirstWrong};
 ghost use Rattle.vm_json.specs.Grammar.{IsJson};
-ghost use Rattle.vm_json.specs.Machine.{json_reading};
+ghost use Rattle.vm_json.specs.Machine.{wrong_place};
 
 use crate::nesting::Nesting;
 use crate::phase::{Phase, ends, step};
@@ -15,16 +15,18 @@ use crate::phase::{Phase, ends, step};
 /// place. Its strings are UTF-8. No memory is taken, and the time grows with the length alone.
 /// (RFC 8259)
 pub fn first_wrong(text: &[u8]) -> Option<usize>
+    // What the bytes are by the grammar.
     ensures json { IfNone result (IsJson text.now) }
     ensures wrong { IfSome result (λ at. FirstWrong IsJson text.now at) }
+    // The same as a function of the bytes.
+    ensures value { result ≡ wrong_place text.now }
 {
-    wrong_place(text)
+    place(text)
 }
 
 /// The place where the machine can't go on, or the length where the text may not end there.
-fn wrong_place(text: &[u8]) -> Option<usize>
-    ensures read { IfNone result (json_reading text.now ≡ Ok tt) }
-    ensures wrong { IfSome result (λ at. json_reading text.now ≡ Err at) }
+fn place(text: &[u8]) -> Option<usize>
+    ensures { result ≡ wrong_place text.now }
 {
     let mut phase = Phase::Wanted;
     let mut inside = Nesting::none();

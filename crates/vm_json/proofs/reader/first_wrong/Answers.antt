@@ -1,20 +1,21 @@
-use Rattle.std.specs.Prelude.{◌≡◌, ℕ, List, Option, Some, None, IfNone, IfSome, Ok, Err}
+use Rattle.std.specs.Prelude.{◌≡◌, ℕ, List, Option, Some, None, IfNone, IfSome}
+use Rattle.std.proofs.Common.{sym}
 use Rattle.vm_base.specs.FirstWrong.{FirstWrong}
 use Rattle.vm_json.specs.Grammar.{IsJson}
-use Rattle.vm_json.specs.Machine.{json_reading}
-use Rattle.vm_json.proofs.Texts.{json_from_reading, json_wrong}
+use Rattle.vm_json.specs.Machine.{wrong_place}
+use Rattle.vm_json.proofs.Texts.{json_there, place_there}
 use Rattle.vm_json.proofs.reader.first_wrong.Goals as goal
 
-json_there : (text : List ℕ) (o : Option ℕ) → IfNone o (json_reading text ≡ Ok tt) → IfNone o (IsJson text)
-json_there text None is = json_from_reading text is
-json_there text (Some at) is = is
+no_place : (text : List ℕ) (o : Option ℕ) → o ≡ wrong_place text → IfNone o (IsJson text)
+no_place text None is = json_there text (sym is)
+no_place text (Some at) is = tt
 
-wrong_there : (text : List ℕ) (o : Option ℕ) → IfSome o (λ at. json_reading text ≡ Err at) → IfSome o (λ at. FirstWrong IsJson text at)
-wrong_there text None is = is
-wrong_there text (Some at) is = json_wrong text at is
+a_place : (text : List ℕ) (o : Option ℕ) → o ≡ wrong_place text → IfSome o (λ at. FirstWrong IsJson text at)
+a_place text None is = tt
+a_place text (Some at) is = place_there text at (sym is)
 
 pub returns-clause-json : goal.returns-clause-json
-returns-clause-json c = json_there c.args.text.now c.wrong_place.result c.wrong_place.ensures.read
+returns-clause-json c = no_place c.args.text.now c.place.result c.place.ensures
 
 pub returns-clause-wrong : goal.returns-clause-wrong
-returns-clause-wrong c = wrong_there c.args.text.now c.wrong_place.result c.wrong_place.ensures.wrong
+returns-clause-wrong c = a_place c.args.text.now c.place.result c.place.ensures

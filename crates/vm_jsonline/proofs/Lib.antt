@@ -1,0 +1,12 @@
+mod Bare
+mod KeyLaws
+pub mod LineLaws
+mod Loops
+mod PairLaws
+mod PartLaws
+pub mod PrintLaws
+mod Prints
+mod QuotedLaws
+mod StringLaws
+mod Times
+mod ValueLaws

@@ -1,0 +1,26 @@
+-- What a line means, in the words of the grammar.
+use Rattle.std.specs.Prelude.{ℕ, ◌<◌, ◌≤◌, List, [], length, Option, Some, None}
+use Rattle.vm_base.specs.FirstWrong.{FirstWrong}
+use Rattle.vm_labels.specs.declared.row.Row.{Row}
+use Rattle.vm_json.specs.Grammar.{Json, Spells, IsJson, Spaces}
+use Rattle.vm_jsonline.specs.Reading.{reading}
+use Rattle.vm_jsonline.specs.Series.{outcome}
+use Rattle.vm_jsonline.specs.declared.line.JsonLine.{JsonLine}
+use Rattle.vm_jsonline.specs.declared.line.JsonLine.TheVariants.{Nothing, Rows, Skipped}
+
+-- what a line of at most 4,194,304 bytes means, and that a longer one is skipped: white space alone says
+-- nothing, and of any other line it is looked at first where it is no JSON
+pub data IsReading (line : List ℕ) : JsonLine → Type 0 where
+  too_long : 4194304 < length line → IsReading line (Skipped 4194304)
+  nothing : length line ≤ 4194304 → Spaces line [] → IsReading line Nothing
+  broken : length line ≤ 4194304 → (Spaces line [] → ⊥) → (at : ℕ) → FirstWrong IsJson line at → IsReading line (Skipped at)
+  written : length line ≤ 4194304 → (x : Json) → Spells line x → IsReading line (outcome x)
+
+abbrev pub rows_said : JsonLine → Option (List Row)
+rows_said Nothing = Some []
+rows_said (Rows rows) = Some rows
+rows_said (Skipped at) = None
+
+-- the rows of a line, none where it is skipped
+abbrev pub rows_of_line : List ℕ → Option (List Row)
+rows_of_line line = rows_said (reading line)
