@@ -60,6 +60,25 @@ impl Batches {
         Ok(())
     }
 
+    /// Takes a line with its rows. After want of memory rows are lost.
+    pub fn add_line(&mut self, alloc: Global, rows: List<Row>) -> Result<(), AllocError>
+        ensures added { OnOk result ((more : ListOf (ListOf RowOf)) →
+            with_more self.old (rows ∷ more) ≡ with_more self.new more) }
+        ensures small { length self.new.held < enough }
+    {
+        let count = self.rows.checked_add(rows.len()).ok_or(AllocError)?;
+        let held = replace(&mut self.held, List::new(alloc));
+        self.rows -= held.len();
+        let held = joined(held, rows)?;
+        if held.len() as u64 >= BATCH_ROWS {
+            self.whole.push(Batch { rows: held })?;
+        } else {
+            self.held = held;
+        }
+        self.rows = count;
+        Ok(())
+    }
+
     /// How many rows there are.
     pub fn rows(&self) -> usize
         ensures { result ≡ row_count (with_more self.now []) }
@@ -82,4 +101,18 @@ impl Batches {
         }
         Ok(batches)
     }
+}
+
+/// Rows with others behind them.
+fn joined(held: List<Row>, rows: List<Row>) -> Result<List<Row>, AllocError>
+    ensures { IfOk result (λ all. all ≡ held ++ rows) }
+{
+    if held.is_empty() {
+        return Ok(rows);
+    }
+    let mut all = held;
+    for row in rows.into_vec() {
+        all.push(row)?;
+    }
+    Ok(all)
 }

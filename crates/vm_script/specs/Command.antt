@@ -6,7 +6,8 @@ use Rattle.std.specs.Str.{bytes_eq, is_utf8, byte}
 use Rattle.vm_script.specs.Chained.{◌>>=◌}
 use Rattle.vm_script.specs.Number.{number_of, number_up_to}
 use Rattle.vm_script.specs.declared.command.Command.{Command}
-use Rattle.vm_script.specs.declared.command.Command.TheVariants.{Prom, Query, Run, End, Close}
+use Rattle.vm_script.specs.declared.command.Command.TheVariants.{Import, Query, Run, End, Close}
+use Rattle.vm_script.specs.declared.command.Format.TheVariants.{Prom, Json}
 
 abbrev pub is_space : ℕ → Bool
 is_space char = char == byte " "
@@ -42,7 +43,8 @@ query_of words = do
 -- each command's word, and what is said where the words after it are these
 abbrev pub commands : List ℕ → List (List ℕ × Option Command)
 commands words =
-    (codes "prom", option_map Prom (now_of words))
+    (codes "prom", option_map (Import Prom) (now_of words))
+    ∷ (codes "json", option_map (Import Json) (now_of words))
     ∷ (codes "query", query_of words)
     ∷ (codes "run", option_map Run (run_of words))
     ∷ (codes "end", option_map End (run_of words))
@@ -63,7 +65,7 @@ command_of line =
 
 -- the numbers of a command are within their bounds, and an expression isn't empty
 abbrev pub IsBounded : Command → Type 0
-IsBounded (Prom now) = now < 2 ^ 48
+IsBounded (Import format now) = now < 2 ^ 48
 IsBounded (Query run time expression) = (run < 1000) × (time < 2 ^ 64) × (0 < length expression)
 IsBounded (Run run) = run < 1000
 IsBounded (End run) = run < 1000

@@ -4,6 +4,7 @@ ghost use Rattle.std.specs.Prelude.{◌≡◌, ◌<◌, ◌^◌, None, Some, IfO
 ghost use Rattle.std.specs.Option.{option_map};
 ghost use Rattle.std.specs.Str.{is_utf8};
 ghost use Rattle.vm_script.specs.Command.{IsBounded, command_of, is_body_end, said_by, commands};
+ghost use Rattle.vm_script.specs.declared.command.Command.TheVariants.{Import};
 ghost use Rattle.vm_script.specs.Command.{first_word, behind_word, now_of, run_of, query_of};
 
 use crate::number::read_number;
@@ -14,11 +15,21 @@ use vm_base::limits::{MAX_IMPORT_LINE, MAX_TIME};
 /// The greatest number of a run.
 const MAX_RUN: u64 = 999;
 
+/// How the lines of a body are written.
+#[derive(Clone, Copy, Debug, PartialEq, Eq)]
+pub enum Format {
+    /// The Prometheus text format 0.0.4.
+    Prom,
+    /// JSON, an object a line, as VictoriaMetrics exports it.
+    Json,
+}
+
 /// A command of the replay script. Times are in ms since the Unix epoch.
 #[derive(Debug, Drop)]
 pub enum Command {
-    /// `prom NOW`: imports the lines of text up to the line `.`, at the time `now`.
-    Prom {
+    /// `prom NOW` or `json NOW`: imports the lines up to the line `.`, at the time `now`.
+    Import {
+        format: Format,
         now: u64,
     },
     /// `query ID TIME EXPR`: begins the run of an instant query.
@@ -74,13 +85,21 @@ fn said(alloc: Global, line: &str) -> Result<Option<Command>, AllocError>
 {
     let (word, words) = parted(line);
     match word {
-        "prom" => Ok(now_of(words).map(|now| Command::Prom { now })),
+        "prom" => Ok(import_of(Format::Prom, words)),
+        "json" => Ok(import_of(Format::Json, words)),
         "query" => read_query(alloc, words),
         "run" => Ok(run_of(words).map(|run| Command::Run { run })),
         "end" => Ok(run_of(words).map(|run| Command::End { run })),
         "close" => Ok(run_of(words).map(|run| Command::Close { run })),
         _ => Ok(None),
     }
+}
+
+fn import_of(format: Format, words: &str) -> Option<Command>
+    ensures value { result ≡ option_map (Import format) (now_of words.now) }
+    ensures bounded { IfSome result IsBounded }
+{
+    now_of(words).map(|now| Command::Import { format, now })
 }
 
 fn read_query(alloc: Global, words: &str) -> Result<Option<Command>, AllocError>

@@ -14,6 +14,6 @@ mod number;
 #[cfg(test)]
 mod tests;
 
-pub use command::{Command, is_body_end, read_command};
+pub use command::{Command, Format, is_body_end, read_command};
 pub use expression::read_selector;
 pub use number::read_number;

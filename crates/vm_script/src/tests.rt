@@ -7,7 +7,7 @@ use vm_labels::{FilterOp, Selector};
 /// A command with its numbers in decimal, or `-`.
 fn shown(alloc: Global, line: &[u8]) -> Result<String, AllocError> {
     match read_command(alloc, line)? {
-        Some(Command::Prom { now }) => format!(in alloc; "prom {now}"),
+        Some(Command::Import { format, now }) => format!(in alloc; "{format:?} {now}"),
         Some(
             Command::Query {
                 run,
@@ -25,9 +25,9 @@ fn shown(alloc: Global, line: &[u8]) -> Result<String, AllocError> {
 #[test]
 fn lines_are_commands(rt: HostRuntime) -> Result<(), AllocError> {
     let cases = [
-        ("prom 0", "prom 0"),
-        ("prom 0001700000000000", "prom 1700000000000"),
-        ("prom 281474976710655", "prom 281474976710655"),
+        ("prom 0", "Prom 0"),
+        ("prom 0001700000000000", "Prom 1700000000000"),
+        ("prom 281474976710655", "Prom 281474976710655"),
         ("prom 281474976710656", "-"),
         ("prom 18446744073709551616", "-"),
         ("prom", "-"),
@@ -64,7 +64,10 @@ fn lines_are_commands(rt: HostRuntime) -> Result<(), AllocError> {
         ("end x", "-"),
         ("close 12", "close 12"),
         ("close", "-"),
-        ("json 0", "-"),
+        ("json 0", "Json 0"),
+        ("json 281474976710656", "-"),
+        ("json", "-"),
+        ("jsonl 0", "-"),
         (".", "-"),
         ("", "-"),
     ];

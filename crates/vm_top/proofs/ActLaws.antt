@@ -12,7 +12,7 @@ use Rattle.vm_machine.specs.declared.refusal.Refusal.TheVariants.{PendingFull, B
 use Rattle.vm_top.specs.Playing.{BodyOf, Gathers, IsAsked, IsReply}
 use Rattle.vm_top.specs.Printed.{accepted_line, refused_line}
 use Rattle.vm_top.specs.Replay.{Answers, Accepts, Refuses, Imports, batches, all_accepted, one_refused}
-use Rattle.vm_top.specs.Rows.{line_rows}
+use Rattle.vm_top.specs.Rows.{format_rows, or_none}
 
 -- the number is taken
 pub taken : (state : State) (number : ℕ) (asked : Result Question Refusal) → is_some (run_of number state.runs) ≡ true
@@ -52,23 +52,23 @@ if_ok_more (Ok a) P Q more p = more a p
 if_ok_more (Err e) P Q more p = tt
 
 -- a body whose batches were all accepted
-pub imported : (time : ℕ) (body : BodyOf) (passed : List (List ℕ)) (before now : State) (all : List Batch) (text : List ℕ) → Gathers time body passed
+pub imported : (body : BodyOf) (passed : List (List ℕ)) (before now : State) (all : List Batch) (text : List ℕ) → Gathers body passed
     → all ≡ with_more body.parted [] → Accepts before all now → text ≡ accepted_line (length all) (row_count all) body.skipped
-    → Imports time passed before now text
-imported time body passed before now all text gathers is accepts line =
-    let these : all ≡ batches time passed = is ∙ sym (gathers.batches []) ∙ ap batches_of (append-nil (map (line_rows time) passed)) in
-    subst (λ t. Imports time passed before now t)
+    → Imports body.format body.time passed before now text
+imported body passed before now all text gathers is accepts line =
+    let these : all ≡ batches body.format body.time passed = is ∙ sym (gathers.batches []) ∙ ap batches_of (append-nil (map (λ line. or_none (format_rows body.format body.time line)) passed)) in
+    subst (λ t. Imports body.format body.time passed before now t)
     (sym (line ∙ ap (λ list. accepted_line (length list) (row_count list) body.skipped) these
-    ∙ ap (accepted_line (length (batches time passed)) (row_count (batches time passed))) gathers.skips))
+    ∙ ap (accepted_line (length (batches body.format body.time passed)) (row_count (batches body.format body.time passed))) gathers.skips))
     (all_accepted now (subst (λ list. Accepts before list now) these accepts))
 
 -- a body of which a batch was refused
-pub refused_body : (time : ℕ) (body : BodyOf) (passed : List (List ℕ)) (before now : State) (all : List Batch) (why : Refusal) (text : List ℕ)
-    → Gathers time body passed → all ≡ with_more body.parted [] → Refuses before all now why → text ≡ refused_line why
-    → Imports time passed before now text
-refused_body time body passed before now all why text gathers is refuses line =
-    let these : all ≡ batches time passed = is ∙ sym (gathers.batches []) ∙ ap batches_of (append-nil (map (line_rows time) passed)) in
-    subst (λ t. Imports time passed before now t) (sym line)
+pub refused_body : (body : BodyOf) (passed : List (List ℕ)) (before now : State) (all : List Batch) (why : Refusal) (text : List ℕ)
+    → Gathers body passed → all ≡ with_more body.parted [] → Refuses before all now why → text ≡ refused_line why
+    → Imports body.format body.time passed before now text
+refused_body body passed before now all why text gathers is refuses line =
+    let these : all ≡ batches body.format body.time passed = is ∙ sym (gathers.batches []) ∙ ap batches_of (append-nil (map (λ line. or_none (format_rows body.format body.time line)) passed)) in
+    subst (λ t. Imports body.format body.time passed before now t) (sym line)
     (one_refused now why (subst (λ list. Refuses before list now why) these refuses))
 
 -- what holds of an error holds of a result that is this error

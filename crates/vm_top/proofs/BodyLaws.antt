@@ -14,8 +14,8 @@ use Rattle.vm_promtext.specs.Means.{rows_of, rows_of_line}
 use Rattle.vm_promtext.specs.Reading.{reading}
 use Rattle.vm_promtext.specs.declared.line.Line.{Line}
 use Rattle.vm_script.specs.Command.{is_body_end}
-use Rattle.vm_top.specs.Playing.{BodyOf, Gathers}
-use Rattle.vm_top.specs.Rows.{line_rows, or_none}
+use Rattle.vm_top.specs.Playing.{Adds, BodyOf, Gathers}
+use Rattle.vm_top.specs.Rows.{format_rows, or_none}
 
 -- one more at the end of a list of which each element has a property
 pub all_more : {X : Type 0} (P : X → Type 0) (xs : List X) (x : X) → AllByRecursion P xs → P x → AllByRecursion P (xs ++ x ∷ [])
@@ -33,24 +33,22 @@ no_end (a ∷ b ∷ more) long =
     ]
 
 -- one line more, whose rows came behind those that were there
-pub gathers_more : (now : ℕ) (old new : BodyOf) (passed : List (List ℕ)) (text : List ℕ) (line : Line) → Gathers now old passed
-    → line ≡ reading now text
-    → ((more : List (List Row)) → with_more old.parted (or_none (rows_of line) ∷ more) ≡ with_more new.parted more)
-    → new.skipped ≡ old.skipped + cond (is_none (rows_of line)) 1 0
-    → length new.parted.held < enough
-    → Gathers now new (passed ++ text ∷ [])
-gathers_more now old new passed text line so_far is comes skips few = record {
-  batches = λ more.
-      ap (λ rows. batches_of (rows ++ more)) (map-append (line_rows now) passed (text ∷ []))
-      ∙ ap batches_of (append_assoc (map (line_rows now) passed) (line_rows now text ∷ []) more)
-      ∙ so_far.batches (line_rows now text ∷ more)
-      ∙ ap (λ said. with_more old.parted (or_none (rows_of said) ∷ more)) (sym is)
-      ∙ comes more;
-  skips = skips ∙ ap (λ said. old.skipped + cond (is_none (rows_of said)) 1 0) is
-      ∙ ap (λ count. count + cond (is_none (rows_of_line now text)) 1 0) so_far.skips
-      ∙ sym (sum_by_push (λ line. cond (is_none (rows_of_line now line)) 1 0) passed text);
-  few = few;
-}
+pub gathers_more : (old new : BodyOf) (passed : List (List ℕ)) (text : List ℕ) → Gathers old passed
+    → Adds (format_rows old.format old.time text) old new → Gathers new (passed ++ text ∷ [])
+gathers_more old new passed text so_far adds =
+    let rows : List ℕ → List Row = λ line. or_none (format_rows old.format old.time line) in
+    let skips : List ℕ → ℕ = λ line. cond (is_none (format_rows old.format old.time line)) 1 0 in
+    record {
+      batches = λ more.
+          rw (adds.format, adds.time)
+          (ap (λ all. batches_of (all ++ more)) (map-append rows passed (text ∷ []))
+          ∙ ap batches_of (append_assoc (map rows passed) (rows text ∷ []) more)
+          ∙ so_far.batches (rows text ∷ more)
+          ∙ adds.comes more);
+      skips = rw (adds.format, adds.time)
+          (adds.skips ∙ ap (λ count. count + skips text) so_far.skips ∙ sym (sum_by_push skips passed text));
+      few = adds.few;
+    }
 
 -- a line without rows changes no batch
 pub no_rows : (old : BodyOf) → length old.parted.held < enough

@@ -2,6 +2,8 @@
 use Rattle.std.proofs.Common.{◌≡◌, ℕ, ◌+◌, ◌≤◌, ◌<◌, ◌^◌, List, [], ◌∷◌, ◌++◌, length, length-append, Option, Some, None, arith, refl, ap, ◌∙◌, true}
 use Rattle.std.specs.Option.{option_map, unwrap_or}
 use Rattle.vm_lines.specs.Lines.{lines, is_too_long}
+use Rattle.vm_jsonline.specs.Reading.{reading as json_reading}
+use Rattle.vm_jsonline.specs.declared.line.JsonLine.TheVariants.{Skipped as JsonSkipped}
 use Rattle.vm_promtext.specs.Reading.{reading}
 use Rattle.vm_promtext.specs.declared.line.Line.TheVariants.{Skipped}
 use Rattle.vm_lines.specs.Reading.{Reading, Moves, to_go, IsFirstLine, IsSpent}
@@ -70,3 +72,7 @@ to_go_moves a b left_a left_b through moves =
 pub reading_long : (now : ℕ) (line : List ℕ) → is_too_long line ≡ true → Skipped 4194304 ≡ reading now line
 unfolding reading
 reading_long now line long = rw long refl
+
+pub json_long : (line : List ℕ) → is_too_long line ≡ true → JsonSkipped 4194304 ≡ json_reading line
+unfolding json_reading
+json_long line long = rw long refl

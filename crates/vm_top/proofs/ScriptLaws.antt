@@ -3,7 +3,7 @@ use Rattle.std.proofs.Common.{◌≡◌, ℕ, ◌+◌, List, [], ◌∷◌, ◌+
 use Rattle.std.specs.List.{AllByRecursion}
 use Rattle.vm_script.specs.Command.{command_of, is_body_end}
 use Rattle.vm_script.specs.declared.command.Command.{Command}
-use Rattle.vm_script.specs.declared.command.Command.TheVariants.{Prom, Query, Run, End, Close}
+use Rattle.vm_script.specs.declared.command.Command.TheVariants.{Import, Query, Run, End, Close}
 use Rattle.vm_top.specs.Script.{Entry, IsEntry, AreWithin, HasBody, IsCutOff, Breaks, IsScript, IsBadAt, entry_lines, lines_behind, script_lines}
 
 head_same : {A : Type 0} (x y : A) (xs ys : List A) → x ∷ xs ≡ y ∷ ys → x ≡ y
@@ -35,7 +35,7 @@ has_end (x ∷ xs) r within = has_end xs r within.1
 -- the lines behind two bodies of one command
 behind_same : (command : Command) (b d r s : List (List ℕ)) → HasBody command b → HasBody command d
     → lines_behind command b ++ r ≡ lines_behind command d ++ s → r ≡ s
-behind_same (Prom now) b d r s has_b has_d same =
+behind_same (Import format now) b d r s has_b has_d same =
     first_end b d r s has_b has_d (sym (append_assoc b (codes "." ∷ []) r) ∙ same ∙ append_assoc d (codes "." ∷ []) s)
 behind_same (Query run time expression) b d r s has_b has_d same = same
 behind_same (Run run) b d r s has_b has_d same = same
@@ -53,7 +53,7 @@ entry_same e f r s is_e is_f same =
 
 -- a command isn't cut off whose body ends
 not_cut : (command : Command) (body r : List (List ℕ)) → IsCutOff (Some command) (lines_behind command body ++ r) → ⊥
-not_cut (Prom now) body r cut = has_end body r (subst AreWithin (append_assoc body (codes "." ∷ []) r) cut)
+not_cut (Import format now) body r cut = has_end body r (subst AreWithin (append_assoc body (codes "." ∷ []) r) cut)
 not_cut (Query run time expression) body r cut = cut
 not_cut (Run run) body r cut = cut
 not_cut (End run) body r cut = cut

@@ -1,7 +1,7 @@
 -- A script that is played line by line: words of inner contracts, which the theorem doesn't cite.
-use Rattle.std.specs.Prelude.{◌≡◌, ℕ, ◌+◌, ◌<◌, ◌≤◌, List, [], ◌∷◌, ◌++◌, length, map, codes, Option, Some, None, Result, Ok, Err, ⊤, ◌⊎◌}
+use Rattle.std.specs.Prelude.{◌≡◌, ℕ, ◌+◌, ◌<◌, ◌≤◌, List, [], ◌∷◌, ◌++◌, length, map, codes, Option, Some, None, Result, Ok, Err, ⊤, ◌⊎◌, if◌then◌else◌}
 use Rattle.std.specs.List.{AllByRecursion}
-use Rattle.std.specs.Option.{option_map}
+use Rattle.std.specs.Option.{option_map, is_none}
 use Rattle.vm_lines.specs.Lines.{lines}
 use Rattle.vm_lines.specs.Reading.{to_go}
 use Rattle.vm_labels.specs.declared.row.Row.{Row}
@@ -13,12 +13,13 @@ use Rattle.vm_machine.specs.declared.refusal.Refusal.{Refusal}
 use Rattle.vm_machine.specs.declared.refusal.Refusal.TheVariants.{Memory as OutOfMemory}
 use Rattle.vm_outside.specs.Outside.{Told, Takes}
 use Rattle.vm_script.specs.declared.command.Command.{Command}
+use Rattle.vm_script.specs.declared.command.Format.{Format}
 use Rattle.vm_script.specs.Command.{command_of}
 use Rattle.vm_top.specs.Printed.{refused_line}
 use Rattle.vm_top.specs.Reading.{Place, unread}
 use Rattle.vm_top.specs.Reply.{reply}
 use Rattle.vm_top.specs.Replay.{skipped, Does, Plays, IsPlayedInPart, IsPlayedToBad}
-use Rattle.vm_top.specs.Rows.{line_rows}
+use Rattle.vm_top.specs.Rows.{format_rows, or_none}
 use Rattle.vm_top.specs.Script.{Entry, IsEntry, HasBody, AreWithin, IsCutOff, IsBadAt, lines_behind, script_lines}
 use Rattle.vm_top.specs.Statuses.{IsTooLong, IsAnswered, IsAnsweredInPart, Wrote}
 use Rattle.vm_top.specs.Words.{replay}
@@ -32,14 +33,24 @@ Through before passed now =
 
 -- what is known of a body while its lines come: its rows in batches, and how many lines are skipped
 pub record BodyOf : Type 0 where
+  pub format : Format
+  pub time : ℕ
   pub parted : Parted
   pub skipped : ℕ
 
 -- the body of these lines, with more to come
-pub record Gathers (now : ℕ) (body : BodyOf) (passed : List (List ℕ)) : Type 0 where
-  pub batches : (more : List (List Row)) → batches_of (map (line_rows now) passed ++ more) ≡ with_more body.parted more
-  pub skips : body.skipped ≡ skipped now passed
+pub record Gathers (body : BodyOf) (passed : List (List ℕ)) : Type 0 where
+  pub batches : (more : List (List Row)) → batches_of (map (λ line. or_none (format_rows body.format body.time line)) passed ++ more) ≡ with_more body.parted more
+  pub skips : body.skipped ≡ skipped body.format body.time passed
   pub few : length body.parted.held < enough
+
+-- what one line more says came to a body: its rows, or that it is skipped
+pub record Adds (rows : Option (List Row)) (before after : BodyOf) : Type 0 where
+  pub format : after.format ≡ before.format
+  pub time : after.time ≡ before.time
+  pub comes : (more : List (List Row)) → with_more before.parted (or_none rows ∷ more) ≡ with_more after.parted more
+  pub skips : after.skipped ≡ before.skipped + (if is_none rows then 1 else 0)
+  pub few : length after.parted.held < enough
 
 -- lines were passed, each was counted, and none comes again
 pub record Passes (passed : List (List ℕ)) (before now : Place) (left_before left_now : Option (List ℕ)) : Type 0 where
@@ -48,10 +59,12 @@ pub record Passes (passed : List (List ℕ)) (before now : Place) (left_before l
   pub nearer : to_go now.reading ≤ to_go before.reading
 
 -- a body was read with the line that ends it
-pub record IsWhole (time : ℕ) (body : BodyOf) (before now : Place) (left_before left_now : Option (List ℕ)) : Type 0 where
+pub record IsWhole (format : Format) (time : ℕ) (body : BodyOf) (before now : Place) (left_before left_now : Option (List ℕ)) : Type 0 where
   pub passed : List (List ℕ)
   pub within : AreWithin passed
-  pub gathers : Gathers time body passed
+  pub gathers : Gathers body passed
+  pub same_format : body.format ≡ format
+  pub same_time : body.time ≡ time
   pub passes : Passes (passed ++ codes "." ∷ []) before now left_before left_now
 
 -- the input ended before the line that ends a body
@@ -59,9 +72,9 @@ abbrev pub IsCut : Place → Option (List ℕ) → Type 0
 IsCut before left_before = Told (unread before left_before) (λ bytes. AreWithin (lines bytes))
 
 -- a body was read, or the input ended within it
-abbrev pub ReadsBody : ℕ → Option BodyOf → Place → Place → Option (List ℕ) → Option (List ℕ) → Type 0
-ReadsBody time None before now left_before left_now = IsCut before left_before
-ReadsBody time (Some body) before now left_before left_now = IsWhole time body before now left_before left_now
+abbrev pub ReadsBody : Format → ℕ → Option BodyOf → Place → Place → Option (List ℕ) → Option (List ℕ) → Type 0
+ReadsBody format time None before now left_before left_now = IsCut before left_before
+ReadsBody format time (Some body) before now left_before left_now = IsWhole format time body before now left_before left_now
 
 -- a command was done, whose body was read, and a text is what it prints
 pub record PlaysCommand (command : Command) (before now : State) (at after : Place) (left_at left_after : Option (List ℕ)) (text : List ℕ) : Type 0 where

@@ -8,12 +8,12 @@ use Rattle.vm_machine.specs.Machine.{State, Event, import, begin, read, end, clo
 use Rattle.vm_machine.specs.declared.question.Question.{Question}
 use Rattle.vm_machine.specs.declared.refusal.Refusal.{Refusal}
 use Rattle.vm_machine.specs.declared.refusal.Refusal.TheVariants.{BadRange, NotBuilt}
-use Rattle.vm_promtext.specs.Means.{rows_of_line}
 use Rattle.vm_script.specs.Expression.{selector_of}
 use Rattle.vm_script.specs.declared.command.Command.{Command}
-use Rattle.vm_script.specs.declared.command.Command.TheVariants.{Prom, Query, Run, End, Close}
+use Rattle.vm_script.specs.declared.command.Command.TheVariants.{Import, Query, Run, End, Close}
+use Rattle.vm_script.specs.declared.command.Format.{Format}
 use Rattle.vm_top.specs.Printed.{printed, accepted_line, refused_line}
-use Rattle.vm_top.specs.Rows.{line_rows}
+use Rattle.vm_top.specs.Rows.{format_rows, or_none}
 use Rattle.vm_top.specs.Script.{Entry, Begins, IsScript, Breaks}
 
 -- a machine to which nothing happened yet
@@ -52,25 +52,25 @@ pub record Refuses (before : State) (batches : List Batch) (now : State) (why : 
   pub accepts : Accepts before first mid
   pub steps : Steps mid (import batch) now (Err why)
 
--- the batches of a body that is read at a time
-abbrev pub batches : ℕ → List (List ℕ) → List Batch
-batches now body = batches_of (map (line_rows now) body)
+-- the batches of a body whose lines are of a format and read at a time
+abbrev pub batches : Format → ℕ → List (List ℕ) → List Batch
+batches format now body = batches_of (map (λ line. or_none (format_rows format now line)) body)
 
 -- how many of its lines are skipped
-abbrev pub skipped : ℕ → List (List ℕ) → ℕ
-skipped now body = count_by (λ line. is_none (rows_of_line now line)) body
+abbrev pub skipped : Format → ℕ → List (List ℕ) → ℕ
+skipped format now body = count_by (λ line. is_none (format_rows format now line)) body
 
 -- the batches of a body are imported, all of them or up to the first that is refused
-pub data Imports (time : ℕ) (body : List (List ℕ)) (before : State) : State → List ℕ → Type 0 where
-  all_accepted : (now : State) → Accepts before (batches time body) now
-      → Imports time body before now
-      (accepted_line (length (batches time body)) (row_count (batches time body)) (skipped time body))
-  one_refused : (now : State) (why : Refusal) → Refuses before (batches time body) now why
-      → Imports time body before now (refused_line why)
+pub data Imports (format : Format) (time : ℕ) (body : List (List ℕ)) (before : State) : State → List ℕ → Type 0 where
+  all_accepted : (now : State) → Accepts before (batches format time body) now
+      → Imports format time body before now
+      (accepted_line (length (batches format time body)) (row_count (batches format time body)) (skipped format time body))
+  one_refused : (now : State) (why : Refusal) → Refuses before (batches format time body) now why
+      → Imports format time body before now (refused_line why)
 
 -- a command with a body is done, and this is printed
 abbrev pub Does : Command → List (List ℕ) → State → State → List ℕ → Type 0
-Does (Prom time) body before now text = Imports time body before now text
+Does (Import format time) body before now text = Imports format time body before now text
 Does (Query run time expression) body before now text =
     Answers run (begin run (question_of time expression)) before now text
 Does (Run run) body before now text = Answers run (read run) before now text

@@ -1,9 +1,9 @@
--- A replay script: one command a line, and behind each `prom` the lines of its body.
+-- A replay script: one command a line, and behind each import the lines of its body.
 use Rattle.std.specs.Prelude.{◌≡◌, ℕ, ◌+◌, false, List, [], ◌∷◌, ◌++◌, length, flat_map, codes, Option, Some, None, ⊤}
 use Rattle.std.specs.List.{AllByRecursion}
 use Rattle.vm_script.specs.Command.{command_of, is_body_end}
 use Rattle.vm_script.specs.declared.command.Command.{Command}
-use Rattle.vm_script.specs.declared.command.Command.TheVariants.{Prom, Query, Run, End, Close}
+use Rattle.vm_script.specs.declared.command.Command.TheVariants.{Import, Query, Run, End, Close}
 
 -- a command with its line, and the lines of its body
 pub record Entry : Type 0 where
@@ -15,9 +15,9 @@ pub record Entry : Type 0 where
 abbrev pub AreWithin : List (List ℕ) → Type 0
 AreWithin body = AllByRecursion (λ line. is_body_end line ≡ false) body
 
--- the body that a command may have: only `prom` has one
+-- the body that a command may have: only an import has one
 abbrev pub HasBody : Command → List (List ℕ) → Type 0
-HasBody (Prom now) body = AreWithin body
+HasBody (Import format now) body = AreWithin body
 HasBody (Query run time expression) body = body ≡ []
 HasBody (Run run) body = body ≡ []
 HasBody (End run) body = body ≡ []
@@ -30,7 +30,7 @@ pub record IsEntry (entry : Entry) : Type 0 where
 
 -- the lines behind a command's own: its body, and the line that ends that
 abbrev pub lines_behind : Command → List (List ℕ) → List (List ℕ)
-lines_behind (Prom now) body = body ++ codes "." ∷ []
+lines_behind (Import format now) body = body ++ codes "." ∷ []
 lines_behind (Query run time expression) body = []
 lines_behind (Run run) body = []
 lines_behind (End run) body = []
@@ -47,7 +47,7 @@ script_lines entries = flat_map entry_lines entries
 -- a line that says no command, or one whose body has no end
 abbrev pub IsCutOff : Option Command → List (List ℕ) → Type 0
 IsCutOff None more = ⊤
-IsCutOff (Some (Prom now)) more = AreWithin more
+IsCutOff (Some (Import format now)) more = AreWithin more
 IsCutOff (Some (Query run time expression)) more = ⊥
 IsCutOff (Some (Run run)) more = ⊥
 IsCutOff (Some (End run)) more = ⊥

@@ -17,8 +17,8 @@ use vm_script::read_selector;
 
 /// Imports a body by batches, up to the first batch that is refused.
 pub fn import_body(alloc: Global, machine: &mut Machine, body: Body) -> Result<Vec<u8>, AllocError>
-    ensures { IfOk result (λ text. (time : ℕ) (passed : ListOf (ListOf ℕ)) → Gathers time body passed
-        → Imports time passed machine.old machine.new text.items) }
+    ensures { IfOk result (λ text. (passed : ListOf (ListOf ℕ)) → Gathers body passed
+        → Imports body.format body.time passed machine.old machine.new text.items) }
 {
     let skipped = body.skipped();
     let rows = body.rows();

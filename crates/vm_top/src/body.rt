@@ -1,12 +1,15 @@
 //! The body of an import: the rows of its lines, in batches.
 
-ghost use Rattle.std.specs.Prelude.{◌≡◌, ◌≤◌, ◌<◌, ◌^◌, ◌+◌, ◌∷◌, ◌++◌, [], ℕ, List as ListOf, length, IfOk, OnOk, OnErr, IsErrOf, ◌⊎◌};
+ghost use Rattle.std.specs.Prelude.{◌≡◌, ◌≤◌, ◌<◌, ◌^◌, ◌+◌, [], ℕ, List as ListOf, None, length, IfOk, OnOk, OnErr, IsErrOf, ◌⊎◌};
 ghost use Rattle.vm_lines.specs.Reading.{to_go};
-ghost use Rattle.vm_machine.specs.Batches.{with_more, row_count};
+ghost use Rattle.vm_machine.specs.Batches.{enough, with_more, row_count};
 ghost use Rattle.vm_outside.specs.Outside.{Rose, Told};
-ghost use Rattle.vm_promtext.specs.Reading.{reading};
+ghost use Rattle.vm_jsonline.specs.Means.{rows_said};
+ghost use Rattle.vm_jsonline.specs.Reading.{reading as json_reading};
+ghost use Rattle.vm_promtext.specs.Means.{rows_of};
 ghost use Rattle.vm_script.specs.Command.{is_body_end};
-ghost use Rattle.vm_top.specs.Playing.{Gathers, ReadsBody};
+ghost use Rattle.vm_top.specs.Playing.{Adds, Gathers, ReadsBody};
+ghost use Rattle.vm_top.specs.Rows.{format_rows};
 ghost use Rattle.vm_top.specs.Reading.{Takes, IsLineOf};
 
 use crate::fault::Fault;
@@ -15,53 +18,95 @@ use crate::last::read_step;
 use std::alloc::{AllocError, Global};
 use std::marker::Model;
 use vm_base::List;
+use vm_base::limits::MAX_IMPORT_LINE;
+use vm_jsonline::{self as jsonline, JsonLine};
 use vm_labels::Batch;
 use vm_lines::Step;
 use vm_machine::Batches;
 use vm_outside::Source;
 use vm_promtext::Line;
-use vm_script::is_body_end;
+use vm_script::{Format, is_body_end};
 
 /// The rows of the lines so far, and how many of the lines were skipped.
 #[derive(Drop)]
 pub struct Body {
+    format: Format,
+    /// The time of rows that have none of their own.
+    time: u64,
     batches: Batches,
     skipped: u64,
 }
 
 impl Model for Body {
+    ghost use Rattle.std.specs.Prelude.{◌<◌, ◌^◌};
     ghost use Rattle.vm_top.specs.Playing.{BodyOf};
 
     ghost Value = { BodyOf };
 
-    ghost view = { λ b. record { parted = b.batches; skipped = b.skipped } };
+    ghost view = { λ b. record { format = b.format; time = b.time; parted = b.batches; skipped = b.skipped } };
+
+    ghost invariant = { λ b. b.time < 2 ^ 48 };
 }
 
 impl Body {
     /// A body without lines. It takes no memory.
-    pub fn new(alloc: Global) -> Body
-        ensures { (now : ℕ) → Gathers now result [] }
+    pub fn new(alloc: Global, format: Format, time: u64) -> Body
+        requires { time < 2 ^ 48 }
+        ensures gathers { Gathers result [] }
+        ensures format { result.format ≡ format }
+        ensures time { result.time ≡ time }
     {
         Body {
+            format,
+            time,
             batches: Batches::new(alloc),
             skipped: 0,
         }
     }
 
-    /// Takes what one line more says.
-    pub fn add(&mut self, alloc: Global, line: Line) -> Result<(), AllocError>
-        ensures { OnOk result ((now : ℕ) (passed : ListOf (ListOf ℕ)) (text : ListOf ℕ)
-            → Gathers now self.old passed → line ≡ reading now text
-            → Gathers now self.new (passed ++ text ∷ [])) }
+    /// Takes one line more, the one that was come to.
+    pub fn add(&mut self, alloc: Global, step: Step, shown: &[u8]) -> Result<(), AllocError>
+        ensures { OnOk result ((text : ListOf ℕ) → IsLineOf step shown.now text
+            → length self.old.parted.held < enough
+            → Adds (format_rows self.old.format self.old.time text) self.old self.new) }
+    {
+        match self.format {
+            Format::Prom => {
+                let line = read_step(alloc, step, shown, self.time)?;
+                self.add_text(alloc, line)
+            }
+            Format::Json => {
+                let line = read_json_step(alloc, step, shown)?;
+                self.add_json(alloc, line)
+            }
+        }
+    }
+
+    fn add_text(&mut self, alloc: Global, line: Line) -> Result<(), AllocError>
+        ensures { OnOk result (length self.old.parted.held < enough → Adds (rows_of line) self.old self.new) }
     {
         match line {
             Line::Row(row) => self.batches.add(alloc, row),
-            Line::Skipped { .. } => {
-                self.skipped = self.skipped.checked_add(1).ok_or(AllocError)?;
-                Ok(())
-            }
+            Line::Skipped { .. } => self.skip(),
             Line::Nothing | Line::NoNumber => Ok(()),
         }
+    }
+
+    fn add_json(&mut self, alloc: Global, line: JsonLine) -> Result<(), AllocError>
+        ensures { OnOk result (length self.old.parted.held < enough → Adds (rows_said line) self.old self.new) }
+    {
+        match line {
+            JsonLine::Rows(rows) => self.batches.add_line(alloc, rows),
+            JsonLine::Skipped { .. } => self.skip(),
+            JsonLine::Nothing => Ok(()),
+        }
+    }
+
+    fn skip(&mut self) -> Result<(), AllocError>
+        ensures { OnOk result (length self.old.parted.held < enough → Adds None self.old self.new) }
+    {
+        self.skipped = self.skipped.checked_add(1).ok_or(AllocError)?;
+        Ok(())
     }
 
     /// How many of its lines were skipped.
@@ -89,6 +134,7 @@ impl Body {
 /// Reads the lines of a body up to the line that ends it. None where the input ends before that.
 pub fn read_body<S: Source>(
     alloc: Global,
+    format: Format,
     time: u64,
     lines: &mut InputLines,
     input: &mut S,
@@ -97,7 +143,7 @@ pub fn read_body<S: Source>(
 
     // What `Ok` holds.
     ensures reads { IfOk result (λ body.
-        ReadsBody time body lines.old lines.new (S.left input.old) (S.left input.new)) }
+        ReadsBody format time body lines.old lines.new (S.left input.old) (S.left input.new)) }
 
     // When each error comes.
     ensures input_fault { IsErrOf result Fault.Input → Rose (S.faults input.old) (S.faults input.new) }
@@ -110,15 +156,27 @@ pub fn read_body<S: Source>(
     ensures takes { Takes lines.old lines.new (S.left input.old) (S.left input.new) }
     ensures counted { S.faults input.old ≤ S.faults input.new }
 {
-    let mut body = Body::new(alloc);
+    let mut body = Body::new(alloc, format, time);
     'lines: while let Some(step) = lines.advance(input)? {
         if ends_body(step, lines.line()) {
             return Ok(Some(body));
         }
-        let line = read_step(alloc, step, lines.line(), time)?;
-        body.add(alloc, line)?;
+        body.add(alloc, step, lines.line())?;
     }
     Ok(None)
+}
+
+/// What a line of JSON says that was come to.
+#[tactic(auto, using(crate::proofs::InputLaws::json_long))]
+fn read_json_step(alloc: Global, step: Step, shown: &[u8]) -> Result<JsonLine, AllocError>
+    ensures { IfOk result (λ said. (line : ListOf ℕ) → IsLineOf step shown.now line → said ≡ json_reading line) }
+{
+    match step {
+        Step::Line => jsonline::read_line(alloc, shown),
+        Step::TooLong | Step::End => Ok(JsonLine::Skipped {
+            at: MAX_IMPORT_LINE,
+        }),
+    }
 }
 
 /// Whether the line that was come to ends a body.

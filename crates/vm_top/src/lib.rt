@@ -5,7 +5,7 @@
 //! over the whole input, and each other status has its cause. Read it first, and then the definitions
 //! that it cites: `specs/Words.antt` and `specs/Statuses.antt`; for `last` `specs/Answer.antt`,
 //! `specs/Rows.antt` and `specs/Reply.antt`; for `replay` `specs/Script.antt`, `specs/Replay.antt` and
-//! `specs/Printed.antt`. What a line says is defined in `vm_promtext`, what a script's line says in
+//! `specs/Printed.antt`. What a line says is defined in `vm_promtext` and `vm_jsonline`, what a script's line says in
 //! `vm_script`, what the lines of an input are in `vm_lines`, and what a query gives and a machine does in
 //! `vm_machine`.
 //!
@@ -30,6 +30,8 @@ mod reply;
 mod status;
 #[cfg(test)]
 mod tests;
+#[cfg(test)]
+mod trial;
 mod words;
 
 pub use fault::Fault;

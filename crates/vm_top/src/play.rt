@@ -5,7 +5,7 @@ ghost use Rattle.std.specs.Option.{option_map};
 ghost use Rattle.vm_outside.specs.Outside.{Rose, Told};
 ghost use Rattle.vm_outside.specs.Outside as outside;
 ghost use Rattle.vm_script.specs.Command.{command_of, IsBounded};
-ghost use Rattle.vm_script.specs.declared.command.Command.TheVariants.{Prom};
+ghost use Rattle.vm_script.specs.declared.command.Command.TheVariants.{Import};
 ghost use Rattle.vm_top.specs.Playing.{PlaysCommand, PlaysLine, IsBrokenBy, CanPlay, Ends};
 ghost use Rattle.vm_top.specs.Reading.{Takes, IsLineOf};
 
@@ -120,7 +120,13 @@ fn play_command<S: Source>(
     ensures counted { S.faults input.old ≤ S.faults input.new }
 {
     match command {
-        Command::Prom { now } => play_import(alloc, machine, lines, input, now),
+        Command::Import { format, now } => {
+            let number = lines.number();
+            match read_body(alloc, format, now, lines, input)? {
+                Some(body) => Ok(import_body(alloc, machine, body)?),
+                None => Err(Fault::BadLine { line: number }),
+            }
+        }
         Command::Query {
             run,
             time,
@@ -129,31 +135,5 @@ fn play_command<S: Source>(
         Command::Run { run } => Ok(read_series(alloc, machine, run)?),
         Command::End { run } => Ok(end_run(alloc, machine, run)?),
         Command::Close { run } => Ok(close_run(alloc, machine, run)?),
-    }
-}
-
-/// Reads the body behind a `prom` whose line was come to, and imports it.
-fn play_import<S: Source>(
-    alloc: Global,
-    machine: &mut Machine,
-    lines: &mut InputLines,
-    input: &mut S,
-    now: u64,
-) -> Result<Vec<u8>, Fault>
-    requires { now < 2 ^ 48 }
-    ensures plays { IfOk result (λ text. PlaysCommand (Prom now) machine.old machine.new lines.old lines.new
-        (S.left input.old) (S.left input.new) text.items) }
-    ensures broken { IfErr result (λ fault. IsBrokenBy fault (Some (Prom now)) lines.old (S.left input.old)) }
-    ensures known { IfErr result CanPlay }
-    ensures input_fault { IsErrOf result Fault.Input → Rose (S.faults input.old) (S.faults input.new) }
-    ensures too_long { IsErrOf result Fault.InputTooLong → Told (S.left input.old) (λ bytes.
-        2 ^ 62 ≤ lines.old.reading.taken + length bytes) }
-    ensures takes { Takes lines.old lines.new (S.left input.old) (S.left input.new) }
-    ensures counted { S.faults input.old ≤ S.faults input.new }
-{
-    let line = lines.number();
-    match read_body(alloc, now, lines, input)? {
-        Some(body) => Ok(import_body(alloc, machine, body)?),
-        None => Err(Fault::BadLine { line }),
     }
 }

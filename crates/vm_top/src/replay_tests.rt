@@ -1,7 +1,7 @@
 //! Scripts by hand, with what they print.
 
 use crate::status::Status;
-use crate::tests::{NEVER, body, run_over};
+use crate::trial::{NEVER, Trial, Want, body, ends, prints};
 use std::alloc::{AllocError, Global};
 use std::test::Fail;
 
@@ -25,7 +25,7 @@ fn expected(alloc: Global, prints: &str) -> Result<String, AllocError> {
 #[test]
 fn scripts(rt: HostRuntime) -> Result<(), Fail> {
     let alloc = rt.alloc();
-    for (script, prints) in [
+    for (script, lines) in [
         ("", ""),
         (
             "prom 0\na{j=\"x\"} 1 1000\n.\nquery 0 1000 a{j!=\"y\"}\nprom 0\na{j=\"z\"} 2 1000\n.\nend 0\nend 0\n",
@@ -51,23 +51,19 @@ fn scripts(rt: HostRuntime) -> Result<(), Fail> {
             "query 1 0 up\nquery 1 281474976710656 sum(up)\nquery 2 281474976710656 sum(up)\nquery 2 281474976710655 sum(up)\nquery 2 281474976710655 up\nclose 1\nclose 1\nrun 1\nend 1\nend 2\n",
             "run 1\nrefused run taken 1\nrefused bad range\nrefused not built\nrun 2\nclosed\nrefused unknown run 1\nrefused unknown run 1\nrefused unknown run 1\nbody \n",
         ),
+        // lines of JSON: a null gives no row, and a line that is no such object is skipped
+        (
+            "json 0\n{\"metric\":{\"__name__\":\"m\",\"job\":\"x\"},\"values\":[1,2.5,null],\"timestamps\":[10,20,30]}\n \n{\"metric\":{\"__name__\":\"m\",\"job\":\"x\"},\"values\":[1,2.5,null],\"timestamps\":[10,20]}\n.\nquery 0 30 m\nend 0\njson 1\n.\n",
+            "accepted 1 batches 2 rows 1 skipped\nrun 0\nbody {\"metric\":{\"__name__\":\"m\",\"job\":\"x\"},\"value\":[0.03,\"2.5\"]}\naccepted 0 batches 0 rows 0 skipped\n",
+        ),
         // repeated samples stay, and the greatest of one time is the last
         (
             "prom 0\nup 2 900\nup 2 900\nup 1 900\n.\nquery 0 900 up\nend 0\n",
             "accepted 1 batches 3 rows 0 skipped\nrun 0\nbody {\"metric\":{\"__name__\":\"up\"},\"value\":[0.9,\"2\"]}\n",
         ),
     ] {
-        let want = expected(alloc, prints)?;
-        for most in [1, 7, usize::MAX] {
-            let got = run_over(alloc, "replay", script.as_bytes(), most, NEVER, NEVER)?;
-            assert_eq!(rt; got.status, Status::Ok, "{script:?} by {most}");
-            assert_eq!(rt;
-                got.output.as_slice(),
-                want.as_bytes(),
-                "{script:?} by {most}"
-            );
-            assert_eq!(rt; got.notes.len(), 0, "{script:?} by {most}");
-        }
+        let want = expected(alloc, lines)?;
+        prints(&rt, alloc, "replay", script, want.as_str())?;
     }
     Ok(())
 }
@@ -77,9 +73,8 @@ fn scripts(rt: HostRuntime) -> Result<(), Fail> {
 #[test]
 fn bad_lines(rt: HostRuntime) -> Result<(), Fail> {
     let alloc = rt.alloc();
-    for (script, number, prints) in [
+    for (script, number, output) in [
         ("\n", 1, ""),
-        ("end 0", 0, "refused unknown run 0\n"),
         ("prom 0\n", 1, ""),
         ("prom 0\nup 1\n", 1, ""),
         (
@@ -98,16 +93,20 @@ fn bad_lines(rt: HostRuntime) -> Result<(), Fail> {
         ("query 1000 0 up\n", 1, ""),
         ("prom 281474976710656\n.\n", 1, ""),
     ] {
-        let got = run_over(alloc, "replay", script.as_bytes(), 5, NEVER, NEVER)?;
-        let (status, note) = if number == 0 {
-            (Status::Ok, String::new(alloc))
-        } else {
-            let note = format!(in alloc; "vmsingle: bad script line {number}\n")?;
-            (Status::Refused, note)
+        let note = format!(in alloc; "bad script line {number}")?;
+        let trial = Trial {
+            words: "replay",
+            input: script,
+            most: 5,
+            bad_read: NEVER,
+            bad_write: NEVER,
         };
-        assert_eq!(rt; got.status, status, "{script:?}");
-        assert_eq!(rt; got.notes.as_slice(), note.as_bytes(), "{script:?}");
-        assert_eq!(rt; got.output.as_slice(), prints.as_bytes(), "{script:?}");
+        let want = Want {
+            status: Status::Refused,
+            output,
+            note: note.as_str(),
+        };
+        ends(&rt, alloc, &trial, &want)?;
     }
     Ok(())
 }
@@ -116,50 +115,75 @@ fn bad_lines(rt: HostRuntime) -> Result<(), Fail> {
 #[test]
 fn replay_faults(rt: HostRuntime) -> Result<(), Fail> {
     let alloc = rt.alloc();
-    let script = b"close 1\nprom 0\nup 1\n.\nclose 2\n".as_slice();
-    for (bad_read, bad_write, status, written) in [
-        (0, NEVER, Status::InputFault, ""),
-        (2, NEVER, Status::InputFault, "refused unknown run 1\n"),
-        (NEVER, 0, Status::OutputFault, ""),
-        (NEVER, 1, Status::OutputFault, "refused un"),
-        (NEVER, 3, Status::OutputFault, "refused unknown run 1\n"),
-        (
-            NEVER,
-            4,
-            Status::OutputFault,
-            "refused unknown run 1\naccepted 1",
-        ),
+    let input = (Status::InputFault, "input fault");
+    let output = (Status::OutputFault, "output fault");
+    let refused = "refused unknown run 1\n";
+    for (bad_read, bad_write, want, written) in [
+        (0, NEVER, input, ""),
+        (2, NEVER, input, refused),
+        (NEVER, 0, output, ""),
+        (NEVER, 1, output, "refused un"),
+        (NEVER, 3, output, refused),
+        (NEVER, 4, output, "refused unknown run 1\naccepted 1"),
     ] {
-        let got = run_over(alloc, "replay", script, 10, bad_read, bad_write)?;
-        assert_eq!(rt; got.status, status, "{bad_read} and {bad_write}");
-        assert_eq!(rt;
-            got.output.as_slice(),
-            written.as_bytes(),
-            "{bad_read} and {bad_write}"
-        );
+        let trial = Trial {
+            words: "replay",
+            input: "close 1\nprom 0\nup 1\n.\nclose 2\n",
+            most: 10,
+            bad_read,
+            bad_write,
+        };
+        let want = Want {
+            status: want.0,
+            output: written,
+            note: want.1,
+        };
+        ends(&rt, alloc, &trial, &want)?;
     }
     Ok(())
 }
 
-/// A body of 20,001 rows makes three batches; 64 runs are open at once, and no more.
+/// A body of 20,001 rows makes three batches, and a line of 10,001 rows one; 64 runs are open at once, and
+/// no more.
 #[test]
 fn limits(rt: HostRuntime) -> Result<(), Fail> {
     let alloc = rt.alloc();
     let mut script = String::new(alloc);
-    let mut prints = String::new(alloc);
+    let mut output = String::new(alloc);
     for run in 0..64 {
         write!(script, "query {run} 5 up\n")?;
-        write!(prints, "run {run}\n")?;
+        write!(output, "run {run}\n")?;
     }
     script.push_str("query 64 5 up\nclose 63\nquery 64 5 up\nprom 5\n")?;
-    prints.push_str("refused views full\nclosed\nrun 64\n")?;
-    for _ in 0..20_001 {
-        script.push_str("up 1\n")?;
+    output.push_str("refused views full\nclosed\nrun 64\n")?;
+    repeat(&mut script, "up 1\n", 20_001)?;
+    script.push_str(".\njson 5\n{\"metric\":{\"a\":\"b\"},\"values\":[0")?;
+    repeat(&mut script, ",1", 10_000)?;
+    script.push_str("],\"timestamps\":[0")?;
+    repeat(&mut script, ",1", 10_000)?;
+    script.push_str("]}\n.\n")?;
+    output.push_str("accepted 3 batches 20001 rows 0 skipped\n")?;
+    output.push_str("accepted 1 batches 10001 rows 0 skipped\n")?;
+    let trial = Trial {
+        words: "replay",
+        input: script.as_str(),
+        most: usize::MAX,
+        bad_read: NEVER,
+        bad_write: NEVER,
+    };
+    let want = Want {
+        status: Status::Ok,
+        output: output.as_str(),
+        note: "",
+    };
+    ends(&rt, alloc, &trial, &want)?;
+    Ok(())
+}
+
+/// Appends a piece so many times.
+fn repeat(text: &mut String, piece: &str, count: u32) -> Result<(), AllocError> {
+    for _ in 0..count {
+        text.push_str(piece)?;
     }
-    script.push_str(".\n")?;
-    prints.push_str("accepted 3 batches 20001 rows 0 skipped\n")?;
-    let got = run_over(alloc, "replay", script.as_bytes(), usize::MAX, NEVER, NEVER)?;
-    assert_eq!(rt; got.status, Status::Ok);
-    assert_eq!(rt; got.output.as_slice(), prints.as_bytes());
     Ok(())
 }

@@ -1,78 +1,15 @@
 //! Worked examples, by hand, of what no clause says: that answers come, and which.
 
+use crate::Status;
 use crate::last::{named, read_step};
 use crate::reply::reply;
-use crate::{Status, run_words};
+use crate::trial::{NEVER, Trial, Want, body, ends, prints};
 use std::alloc::{AllocError, Global};
 use std::test::Fail;
 use vm_base::limits::MAX_TIME;
 use vm_lines::Step;
 use vm_machine::{Batches, Machine, Question};
-use vm_outside::{MemClock, MemSink, MemSource, NoDisk, NoLink, NoPatterns};
 use vm_promtext::Line;
-
-/// What one run of the program left.
-#[derive(Drop)]
-pub struct Outcome {
-    pub status: Status,
-    pub output: Vec<u8>,
-    pub notes: Vec<u8>,
-}
-
-/// No call of a source or a sink has this number.
-pub const NEVER: u64 = u64::MAX;
-
-/// Runs the program over an input of which a read gives at most `most` bytes, and of which the read with the
-/// number `bad_read` fails, and over an output that takes at most `most` bytes a write and whose write with
-/// the number `bad_write` fails.
-pub fn run_over(
-    alloc: Global,
-    words: &str,
-    input: &[u8],
-    most: usize,
-    bad_read: u64,
-    bad_write: u64,
-) -> Result<Outcome, AllocError> {
-    let most = most.max(1);
-    let words = words_of(alloc, words)?;
-    let failing = Vec::from_array(alloc, [bad_read])?;
-    let mut source = MemSource::in_pieces(Vec::from_slice(alloc, input)?, most, failing);
-    let failing = Vec::from_array(alloc, [bad_write])?;
-    let mut output = MemSink::in_pieces(alloc, most, failing);
-    let mut notes = MemSink::steady(alloc);
-    let mut clock = MemClock::new(Vec::from_array(alloc, [1_700_000_000_000])?);
-    let status = run_words(
-        alloc,
-        &words,
-        &mut source,
-        &mut output,
-        &mut notes,
-        &mut NoDisk::new(),
-        &mut NoLink::new(),
-        &mut clock,
-        &mut NoPatterns::new(),
-    );
-    Ok(Outcome {
-        status,
-        output: Vec::from_slice(alloc, output.bytes())?,
-        notes: Vec::from_slice(alloc, notes.bytes())?,
-    })
-}
-
-fn words_of(alloc: Global, words: &str) -> Result<Vec<String>, AllocError> {
-    let mut list = Vec::new(alloc);
-    for word in words.split(' ') {
-        list.push(String::from_str(alloc, word)?)?;
-    }
-    Ok(list)
-}
-
-/// The body with these series.
-pub fn body(alloc: Global, series: &str) -> Result<String, AllocError> {
-    format!(in alloc;
-        "{{\"status\":\"success\",\"data\":{{\"resultType\":\"vector\",\"result\":[{series}]}}}}\n"
-    )
-}
 
 const NONE: &str = "";
 
@@ -178,16 +115,7 @@ fn answers(rt: HostRuntime) -> Result<(), Fail> {
         ),
     ] {
         let want = body(alloc, series)?;
-        for most in [1, 7, usize::MAX] {
-            let got = run_over(alloc, words, input.as_bytes(), most, NEVER, NEVER)?;
-            assert_eq!(rt; got.status, Status::Ok, "{words} on {input:?} by {most}");
-            assert_eq!(rt;
-                got.output.as_slice(),
-                want.as_bytes(),
-                "{words} on {input:?} by {most}"
-            );
-            assert_eq!(rt; got.notes.len(), 0, "{words} on {input:?} by {most}");
-        }
+        prints(&rt, alloc, words, input, want.as_str())?;
     }
     Ok(())
 }
@@ -214,14 +142,19 @@ fn usage(rt: HostRuntime) -> Result<(), Fail> {
         "-- last up 1000",
         "Last up 1000",
     ] {
-        let got = run_over(alloc, words, b"up 1 900\n", usize::MAX, NEVER, NEVER)?;
-        assert_eq!(rt; got.status, Status::Usage, "{words}");
-        assert_eq!(rt;
-            got.notes.as_slice(),
-            b"vmsingle: usage\n".as_slice(),
-            "{words}"
-        );
-        assert_eq!(rt; got.output.len(), 0, "{words}");
+        let trial = Trial {
+            words,
+            input: "up 1 900\n",
+            most: usize::MAX,
+            bad_read: NEVER,
+            bad_write: NEVER,
+        };
+        let want = Want {
+            status: Status::Usage,
+            output: "",
+            note: "usage",
+        };
+        ends(&rt, alloc, &trial, &want)?;
     }
     Ok(())
 }
@@ -230,38 +163,28 @@ fn usage(rt: HostRuntime) -> Result<(), Fail> {
 #[test]
 fn faults(rt: HostRuntime) -> Result<(), Fail> {
     let alloc = rt.alloc();
-    let input = (Status::InputFault, b"vmsingle: input fault\n".as_slice());
-    let output = (Status::OutputFault, b"vmsingle: output fault\n".as_slice());
+    let input = (Status::InputFault, "input fault");
+    let output = (Status::OutputFault, "output fault");
     for (text, bad_read, bad_write, want, written) in [
-        ("up 1 900\n", 0, NEVER, input, b"".as_slice()),
-        ("up 1 900\n", 2, NEVER, input, b"".as_slice()),
-        ("up 1 900 \n", 2, NEVER, input, b"".as_slice()),
-        ("up 1 900\n", NEVER, 0, output, b"".as_slice()),
-        ("up 1 900\n", NEVER, 2, output, b"{\"status\":".as_slice()),
+        ("up 1 900\n", 0, NEVER, input, ""),
+        ("up 1 900\n", 2, NEVER, input, ""),
+        ("up 1 900 \n", 2, NEVER, input, ""),
+        ("up 1 900\n", NEVER, 0, output, ""),
+        ("up 1 900\n", NEVER, 2, output, "{\"status\":"),
     ] {
-        let got = run_over(
-            alloc,
-            "last up 1000",
-            text.as_bytes(),
-            5,
+        let trial = Trial {
+            words: "last up 1000",
+            input: text,
+            most: 5,
             bad_read,
             bad_write,
-        )?;
-        assert_eq!(rt;
-            got.status,
-            want.0,
-            "{text:?} with {bad_read} and {bad_write}"
-        );
-        assert_eq!(rt;
-            got.notes.as_slice(),
-            want.1,
-            "{text:?} with {bad_read} and {bad_write}"
-        );
-        assert_eq!(rt;
-            got.output.as_slice(),
-            written,
-            "{text:?} with {bad_read} and {bad_write}"
-        );
+        };
+        let want = Want {
+            status: want.0,
+            output: written,
+            note: want.1,
+        };
+        ends(&rt, alloc, &trial, &want)?;
     }
     Ok(())
 }
@@ -302,13 +225,8 @@ fn same_as_machine(rt: HostRuntime) -> Result<(), Fail> {
             (900, "last up 900"),
             (1000, "last up 1000"),
         ] {
-            let got = run_over(alloc, words, input.as_bytes(), 5, NEVER, NEVER)?;
             let want = by_machine(alloc, time, input)?;
-            assert_eq!(rt;
-                got.output.as_slice(),
-                want.as_slice(),
-                "{input:?} at {time}"
-            );
+            prints(&rt, alloc, words, input, std::str::from_utf8(&want)?)?;
         }
     }
     Ok(())
@@ -325,18 +243,28 @@ fn long_inputs(rt: HostRuntime) -> Result<(), Fail> {
         (200_000, 20_000),
         (2, 20_000),
     ] {
-        let mut input = vec![in alloc; b'a'; name]?;
-        input.extend_from_slice(b" 1 900\n")?;
-        for _ in 0..count {
-            input.extend_from_slice(b"up 3 500\n")?;
+        let mut input = String::new(alloc);
+        for _ in 0..name {
+            input.push('a')?;
         }
-        let got = run_over(alloc, "last up 1000", &input, usize::MAX, NEVER, NEVER)?;
-        assert_eq!(rt; got.status, Status::Ok, "a name of {name} bytes");
-        assert_eq!(rt;
-            got.output.as_slice(),
-            body(alloc, THREE)?.as_bytes(),
-            "a name of {name} bytes"
-        );
+        input.push_str(" 1 900\n")?;
+        for _ in 0..count {
+            input.push_str("up 3 500\n")?;
+        }
+        let want = body(alloc, THREE)?;
+        let trial = Trial {
+            words: "last up 1000",
+            input: input.as_str(),
+            most: usize::MAX,
+            bad_read: NEVER,
+            bad_write: NEVER,
+        };
+        let want = Want {
+            status: Status::Ok,
+            output: want.as_str(),
+            note: "",
+        };
+        ends(&rt, alloc, &trial, &want)?;
     }
     Ok(())
 }

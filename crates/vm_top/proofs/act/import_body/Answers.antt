@@ -11,7 +11,7 @@ returns-in-Ok c =
     let skipped = c.skipped-skipped.result in
     let all = c.in_ok-batches.batches in
     if_ok_more c.accepted_line.result _ _
-    (λ text is time passed gathers. imported time c.args.body passed c.args.machine.now c.import_all.new.machine
+    (λ text is passed gathers. imported c.args.body passed c.args.machine.now c.import_all.new.machine
     c.in_ok-batches.batches text.items gathers c.in_ok-batches.ensures c.in-Ok.ensures.all
     (is ∙ ap (λ n. accepted_line n rows skipped) c.len-count.ensures
     ∙ ap (λ n. accepted_line (length all) n skipped) (c.rows-rows.ensures ∙ ap row_count (sym c.in_ok-batches.ensures))
@@ -21,6 +21,6 @@ returns-in-Ok c =
 pub returns-in-Err : goal.returns-in-Err
 returns-in-Err c =
     if_ok_more c.refused_line.result _ _
-    (λ text is time passed gathers. refused_body time c.args.body passed c.args.machine.now c.import_all.new.machine
+    (λ text is passed gathers. refused_body c.args.body passed c.args.machine.now c.import_all.new.machine
     c.in_ok-batches.batches c.in-Err.why text.items gathers c.in_ok-batches.ensures c.in-Err.ensures.refused is)
     c.refused_line.ensures

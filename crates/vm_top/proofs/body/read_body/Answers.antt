@@ -2,7 +2,7 @@ use Rattle.std.proofs.Common.{[], ◌∷◌, ◌++◌, codes, sym, subst, ◌∙
 use Rattle.vm_script.specs.Command.{is_body_end}
 use Rattle.vm_top.specs.Playing.{Passes}
 use Rattle.vm_top.specs.Reading.{Comes, HasLine, IsLineOf}
-use Rattle.vm_top.proofs.BodyLaws.{all_more, is_end}
+use Rattle.vm_top.proofs.BodyLaws.{all_more, gathers_more, is_end}
 use Rattle.vm_top.proofs.InputLaws.{takes_more, takes_none}
 use Rattle.vm_top.proofs.PlayLaws.{passes_none, passes_more, passes_line}
 use Rattle.vm_top.proofs.body.read_body.Goals as goal
@@ -11,7 +11,9 @@ pub lines-init : goal.lines-init
 lines-init g c =
     let left = g.S.Source.left c.args.input.now in
     record {
-      passed = ([], tt, c.new-body.ensures c.args.time, passes_none c.args.lines.now left);
+      passed = ([], tt, c.new-body.ensures.gathers, passes_none c.args.lines.now left);
+      format = c.new-body.ensures.format;
+      time = c.new-body.ensures.time;
       takes = takes_none c.args.lines.now left;
       counted = omega arith;
     }
@@ -34,6 +36,8 @@ returns-then-ends_body-clause-reads g c =
       passed = so_far.0;
       within = so_far.1;
       gathers = so_far.2;
+      same_format = c.lines.invariant.format;
+      same_time = c.lines.invariant.time;
       passes = passes_more c.args.lines.now c.lines.lines c.advance.new.self (left c.args.input.now) (left c.lines.input)
           (left c.advance.new.input) so_far.0 (codes "." ∷ []) so_far.3
           (subst (λ line. Passes (line ∷ []) c.lines.lines c.advance.new.self (left c.lines.input) (left c.advance.new.input))
@@ -42,12 +46,6 @@ returns-then-ends_body-clause-reads g c =
 
 pub returns-then-ends_body-clause-takes : goal.returns-then-ends_body-clause-takes
 returns-then-ends_body-clause-takes g c =
-    let left = g.S.Source.left in
-    takes_more c.args.lines.now c.lines.lines c.advance.new.self (left c.args.input.now) (left c.lines.input)
-    (left c.advance.new.input) c.lines.invariant.takes c.in_ok-step.ensures.takes
-
-pub returns-in_err-line-clause-takes : goal.returns-in_err-line-clause-takes
-returns-in_err-line-clause-takes g c =
     let left = g.S.Source.left in
     takes_more c.args.lines.now c.lines.lines c.advance.new.self (left c.args.input.now) (left c.lines.input)
     (left c.advance.new.input) c.lines.invariant.takes c.in_ok-step.ensures.takes
@@ -72,15 +70,18 @@ lines-preserved g c =
     let shown = subst (λ text. IsLineOf c.in-Some.step text has.line) (sym c.line.ensures) has.is in
     let shown_again = subst (λ text. IsLineOf c.in-Some.step text has.line) (sym c.line-in-Some.ensures) has.is in
     let so_far = c.lines.invariant.passed in
+    let adds = c.in_ok-add.ensures has.line shown_again so_far.2.few in
     record {
       passed = (
         so_far.0 ++ has.line ∷ [],
         all_more (λ line. is_body_end line ≡ false) so_far.0 has.line so_far.1 (sym (c.ends_body.ensures has.line shown) ∙ c.if-ends_body.false),
-        c.in_ok-add.ensures c.args.time so_far.0 has.line so_far.2 (c.in_ok-line.ensures has.line shown_again),
+        gathers_more c.lines.body c.add.new.self so_far.0 has.line so_far.2 adds,
         passes_more c.args.lines.now c.lines.lines c.advance.new.self (left c.args.input.now) (left c.lines.input)
             (left c.advance.new.input) so_far.0 (has.line ∷ []) so_far.3
             (passes_line c.in-Some.step c.lines.lines c.advance.new.self (left c.lines.input) (left c.advance.new.input) has),
       );
+      format = adds.format ∙ c.lines.invariant.format;
+      time = adds.time ∙ c.lines.invariant.time;
       takes = takes_more c.args.lines.now c.lines.lines c.advance.new.self (left c.args.input.now) (left c.lines.input)
           (left c.advance.new.input) c.lines.invariant.takes c.in_ok-step.ensures.takes;
       counted = omega (arith, c.lines.invariant.counted, c.in_ok-step.ensures.counted);

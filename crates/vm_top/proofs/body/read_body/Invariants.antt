@@ -1,4 +1,4 @@
-use Rattle.std.proofs.Common.{◌≤◌, ℕ, List}
+use Rattle.std.proofs.Common.{◌≡◌, ◌≤◌, ℕ, List}
 use Rattle.vm_lines.specs.Reading.{to_go}
 use Rattle.vm_top.specs.Playing.{Gathers, Passes}
 use Rattle.vm_top.specs.Reading.{Takes}
@@ -9,8 +9,10 @@ abbrev pub invariant-lines : goal.invariant-lines
 invariant-lines g l =
     let left = g.S.Source.left in
     record {
-      passed : (passed : List (List ℕ)) × AreWithin passed × Gathers l.time l.body passed
+      passed : (passed : List (List ℕ)) × AreWithin passed × Gathers l.body passed
           × Passes passed l.initial.lines l.lines (left l.initial.input) (left l.input);
+      format : l.body.format ≡ l.fn.format;
+      time : l.body.time ≡ l.fn.time;
       takes : Takes l.initial.lines l.lines (left l.initial.input) (left l.input);
       counted : g.S.Source.faults l.initial.input ≤ g.S.Source.faults l.input;
     }
