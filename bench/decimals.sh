@@ -1,9 +1,9 @@
 #!/bin/sh
 # How many nanoseconds a call of `vm_decimal` takes, on values as samples have them (up to 6 digits) and on wide
 # ones, beside the same loop in Rust over `f64` and over `i128` where rustc is at hand. Takes no words. Prints a
-# table, each figure of the best of three runs, less the time of a run without calls.
+# table of processor time, each figure of the best of three runs, less the time of a run without calls.
 #
-# Needs sh, awk and GNU date, and `rt` where the program of the benchmarks isn't built yet.
+# Needs sh and awk, and `rt` where the program of the benchmarks isn't built yet.
 set -eu
 export LC_ALL=C
 
@@ -11,8 +11,8 @@ root=$(CDPATH= cd -- "$(dirname -- "$0")/.." && pwd)
 program=$root/crates/vm_bench/out/vm_bench
 folder=$(mktemp -d)
 trap 'rm -rf -- "$folder"' EXIT
-count=100000
-rounds=20
+count=10000
+rounds=1000
 
 # Pairs of numbers, a pair a line: like samples, or with 20 to 30 digits.
 generate() {
@@ -33,23 +33,24 @@ generate() {
     }'
 }
 
+# The seconds of processor time that a program takes with these words.
+seconds() {
+    ("$@" <"$input" >"$folder/said" && times) |
+        awk 'NR == 2 { split($1, user, /[ms]/); split($2, kernel, /[ms]/)
+            print (user[1] + kernel[1]) * 60 + user[2] + kernel[2] }'
+}
+
 # The nanoseconds a call of the quickest of three runs of a program with these words.
 per_call() {
     input=$1
     calls=$2
     shift 2
     for _ in 1 2 3; do
-        before=$(date +%s%N)
-        "$@" "$rounds" <"$input" >"$folder/said"
-        middle=$(date +%s%N)
-        "$@" 0 <"$input" >"$folder/said"
-        after=$(date +%s%N)
-        echo "$before $middle $after"
+        echo "$(seconds "$@" "$rounds") $(seconds "$@" 0)"
     done | awk -v calls="$calls" -v rounds="$rounds" '{
-        whole = $2 - $1; none = $3 - $2
-        if (NR == 1 || whole < best) best = whole
-        if (NR == 1 || none < least) least = none
-    } END { printf "%.1f", (best - least) / calls / rounds }'
+        if (NR == 1 || $1 < best) best = $1
+        if (NR == 1 || $2 < least) least = $2
+    } END { printf "%.1f", (best - least) * 1e9 / calls / rounds }'
 }
 
 # The same loops in Rust: `TYPE OPERATION ROUNDS`.
@@ -119,7 +120,7 @@ for kind in small wide; do
     for operation in add mul quot9 compare read print; do
         calls=$count
         [ "$operation" = read ] && calls=$((2 * count))
-        dec=$(per_call "$folder/$kind" "$calls" "$program" "decimals-$operation")
+        dec=$(per_call "$folder/$kind" "$calls" "$program" decimals "$operation")
         float=
         whole=
         if [ "$plain" = yes ]; then

@@ -1,15 +1,20 @@
-//! What a benchmark calls and the program doesn't: one call, many times, over the bytes of standard input.
+//! What a benchmark calls and the program doesn't: one call, many times.
 //!
-//! `promtext ROUNDS` reads each line by `vm_promtext::read_line`, and prints how many rows there were and how
-//! many lines were skipped. `decimals-OPERATION ROUNDS` calls an operation of `vm_decimal` on the two numbers of
-//! each line, and prints how many answers counted. `copy ROUNDS` copies all bytes to another place in memory, which is the yardstick, and
-//! prints how many it copied. With 0 rounds they take the time of reading the input. The scripts of `bench/`
-//! take the times.
+//! `promtext ROUNDS` reads each line of standard input by `vm_promtext::read_line`, and prints how many rows there
+//! were and how many lines were skipped. `copy ROUNDS` copies all bytes of the input to another place in memory,
+//! which is the yardstick, and prints how many it copied. `decimals OPERATION ROUNDS` calls an operation of
+//! `vm_decimal` on the two numbers of each line, and prints how many answers counted. With 0 rounds they take the
+//! time of reading the input.
+//!
+//! `encode KIND ROUNDS`, `decode KIND ROUNDS` and `move KIND ROUNDS` make a series of 16 blocks, constant, counter,
+//! gauge or random, and write its blocks, read them, or copy their samples in memory; each prints how many samples
+//! and how many bytes of blocks that were. With 0 rounds they take the time of making the series. The scripts of
+//! `bench/` take the times.
 #![tactic(auto)]
 
+mod blocks;
 mod decimals;
 
-use crate::decimals::calculate;
 use anyhow::{Result, bail};
 use std::alloc::Global;
 use std::env;
@@ -27,26 +32,32 @@ fn main(rt: HostRuntime) -> Result<()> {
     for word in env::args(&rt)?.skip(1) {
         words.push(word)?;
     }
-    let [name, rounds] = words.as_slice() else {
-        bail!("usage");
-    };
-    let rounds = rounds.parse::<u32>()?;
-    match name.as_str() {
-        "promtext" => {
-            let (rows, skipped) = read_lines(alloc, &input, rounds)?;
-            println!(rt; "rows {rows} skipped {skipped}")?;
-        }
-        "copy" => {
-            let bytes = copy(alloc, &input, rounds)?;
-            println!(rt; "bytes {bytes}")?;
-        }
-        name => match name.strip_prefix("decimals-") {
-            Some(operation) => {
-                let counted = calculate(alloc, &input, operation, rounds)?;
-                println!(rt; "counted {counted}")?;
+    match words.as_slice() {
+        [name, rounds] => {
+            let rounds = rounds.parse::<u32>()?;
+            match name.as_str() {
+                "promtext" => {
+                    let (rows, skipped) = read_lines(alloc, &input, rounds)?;
+                    println!(rt; "rows {rows} skipped {skipped}")?;
+                }
+                "copy" => {
+                    let bytes = copy(alloc, &input, rounds)?;
+                    println!(rt; "bytes {bytes}")?;
+                }
+                _ => bail!("usage"),
             }
-            None => bail!("usage"),
-        },
+        }
+        [name, kind, rounds] => {
+            let rounds = rounds.parse::<u32>()?;
+            if name.as_str() == "decimals" {
+                let counted = decimals::calculate(alloc, &input, kind.as_str(), rounds)?;
+                println!(rt; "counted {counted}")?;
+            } else {
+                let (samples, bytes) = blocks::run(alloc, name.as_str(), kind.as_str(), rounds)?;
+                println!(rt; "samples {samples} bytes {bytes}")?;
+            }
+        }
+        _ => bail!("usage"),
     }
     Ok(())
 }
