@@ -13,10 +13,14 @@
 
 mod clock;
 mod disk;
+mod disk_call;
 mod failed;
 mod failing_calls;
+mod files;
 mod link;
 mod mem_clock;
+mod mem_disk;
+mod mem_files;
 mod mem_sink;
 mod mem_source;
 mod no_disk;
@@ -31,9 +35,12 @@ mod writing;
 
 pub use clock::Clock;
 pub use disk::Disk;
+pub use disk_call::DiskCall;
 pub use failed::Failed;
+pub use files::{ReadFault, read_all, write_and_sync};
 pub use link::Link;
 pub use mem_clock::MemClock;
+pub use mem_disk::MemDisk;
 pub use mem_sink::MemSink;
 pub use mem_source::MemSource;
 pub use no_disk::NoDisk;

@@ -1,0 +1,22 @@
+//! What a disk in memory writes down of its calls.
+use vm_base::List;
+
+/// A call of a disk in memory, with what came of it.
+#[derive(Debug, Drop)]
+pub enum DiskCall {
+    /// The length of a file was asked for.
+    Len { file: u64 },
+    /// A file was read from a place on, and so many bytes were given: none where the call failed.
+    Read { file: u64, at: u64, given: u64 },
+    /// These bytes were to be put at a place of a file.
+    Write {
+        file: u64,
+        at: u64,
+        bytes: List<u8>,
+        done: bool,
+    },
+    /// A file was to be synced.
+    Sync { file: u64, done: bool },
+    /// A file was to be made empty.
+    DropFile { file: u64, done: bool },
+}
