@@ -1,10 +1,11 @@
 -- A disk in memory, one call after the other.
-use Rattle.std.proofs.Common.{◌≡◌, ◌≢◌, ℕ, ◌+◌, ◌≤◌, Bool, true, false, ◌⊎◌, inl, inr, ⊎_elim, List, [], ◌∷◌, ◌++◌, length, reverse, refl, sym, ap, ◌∙◌, arith, subst, length-append}
+use Rattle.std.proofs.Common.{◌≡◌, ◌≢◌, ℕ, ◌+◌, ◌≤◌, ◌<◌, Bool, true, false, ◌⊎◌, inl, inr, ⊎_elim, List, [], ◌∷◌, ◌++◌, length, reverse, take, get_or, refl, sym, ap, ◌∙◌, arith, subst, length-append}
 use Rattle.std.specs.Prelude.{nat_eq, if◌then◌else◌}
 use Rattle.std.proofs.lemmas.Bool.Decides.{nat_tests}
-use Rattle.std.proofs.lemmas.List.{reverse-append, length-reverse}
+use Rattle.std.proofs.lemmas.List.{reverse-append, length-reverse, take_more}
 use Rattle.vm_outside.specs.Disk.{Image, Torn, Dropped, Changes, Follows, NoMore, Each, Elapses, Holds, Emptied}
-use Rattle.vm_outside.specs.MemDisk.{IsLeft, all_synced, after_write, after_drop, written, replayed, unsynced, remains, remains_since, given}
+use Rattle.vm_outside.specs.MemDisk.{file_of, written, replayed, unsynced, remains, remains_since, given}
+use Rattle.vm_outside.specs.Unsynced.{IsLeft, all_synced, after_write, after_drop}
 use Rattle.vm_outside.specs.declared.disk_call.DiskCall.{DiskCall}
 use Rattle.vm_outside.specs.declared.disk_call.DiskCall.TheVariants.{Len, Read, Write, Sync, DropFile}
 use Rattle.vm_outside.specs.UnsyncedLaws.{covered, torn_itself, was_torn, was_dropped, reads_left, only_synced}
@@ -18,6 +19,27 @@ other_number file other apart = go (nat_eq file other) refl
     go : (b : Bool) → nat_eq file other ≡ b → nat_eq file other ≡ false
     go true is = absurd (apart (grind (arith, nat_tests, is)))
     go false is = is
+
+-- a call of another file
+
+pub other_replayed : (first : Image) (past : List DiskCall) (call : DiskCall) (file : ℕ) → file_of call ≢ file
+    → replayed first (call ∷ past) file ≡ replayed first past file
+other_replayed first past (Len f) file apart = refl
+other_replayed first past (Read f at n) file apart = refl
+other_replayed first past (Write f at bytes true) file apart = rw (other_number f file (λ is. apart (sym is))) refl
+other_replayed first past (Write f at bytes false) file apart = refl
+other_replayed first past (Sync f done) file apart = refl
+other_replayed first past (DropFile f true) file apart = rw (other_number f file (λ is. apart (sym is))) refl
+other_replayed first past (DropFile f false) file apart = refl
+
+pub other_unsynced : (first : Image) (past : List DiskCall) (call : DiskCall) (file : ℕ) → file_of call ≢ file
+    → unsynced first (call ∷ past) file ≡ unsynced first past file
+other_unsynced first past (Len f) file apart = refl
+other_unsynced first past (Read f at n) file apart = refl
+other_unsynced first past (Write f at bytes done) file apart = rw (other_number f file (λ is. apart (sym is))) refl
+other_unsynced first past (Sync f true) file apart = rw (other_number f file (λ is. apart (sym is))) refl
+other_unsynced first past (Sync f false) file apart = refl
+other_unsynced first past (DropFile f done) file apart = rw (other_number f file (λ is. apart (sym is))) refl
 
 -- what a crash may leave, one call on
 
@@ -176,3 +198,22 @@ may_drop first now calls later file done same (inr is) = record {
   own = λ left remained. (left, same_left first now calls later file left same is remained, omega arith);
   others = λ other apart left remained. same_left first now calls later other left same is remained;
 }
+
+-- a disk that wasn't called yet
+
+pub nothing_left : (first : Image) (calls : List DiskCall) → length calls ≡ 0 → (file : ℕ) (left : List ℕ)
+    → remains first (reverse calls) file left → left ≡ first file
+nothing_left first [] none file left remained = only_synced (first file) left remained
+nothing_left first (call ∷ calls) none file left remained = absurd (omega (arith, none))
+
+pub nothing_replayed : (first : Image) (calls : List DiskCall) → length calls ≡ 0 → (file : ℕ)
+    → replayed first (reverse calls) file ≡ first file
+nothing_replayed first [] none file = refl
+nothing_replayed first (call ∷ calls) none file = absurd (omega (arith, none))
+
+-- one call more of a record
+pub reverse_more : (calls : List DiskCall) (i : ℕ) (call : DiskCall) → get_or calls i call ≡ call → i < length calls
+    → reverse (take (i + 1) calls) ≡ call ∷ reverse (take i calls)
+reverse_more calls i call is within =
+    ap (λ l. reverse l) (take_more calls i call within ∙ ap (λ x. take i calls ++ x ∷ []) is)
+    ∙ reverse_push (take i calls) call

@@ -10,4 +10,5 @@ pub mod MemSource
 pub mod NoDisk
 pub mod Outside
 pub mod Splices
+pub mod Unsynced
 pub mod UnsyncedLaws

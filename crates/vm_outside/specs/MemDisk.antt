@@ -1,47 +1,23 @@
 -- What reads give of a disk in memory, and what a crash may leave of it: both follow from what its files
 -- held at first and from the record of its calls, which is taken from the last one back.
-use Rattle.std.specs.Prelude.{◌≡◌, ◌≤◌, ◌<◌, ℕ, ◌+◌, ◌*◌, max, Bool, true, false, ◌&&◌, ◌||◌, nat_le, nat_lt, nat_eq, if◌then◌else◌, List, [], ◌∷◌, ◌++◌, length, take, drop, reverse, slice_get, ◌⊎◌, Option, Some, None}
+use Rattle.std.specs.Prelude.{◌≡◌, ◌≤◌, ℕ, ◌+◌, ◌^◌, Bool, true, false, nat_le, nat_eq, if◌then◌else◌, List, [], ◌∷◌, ◌++◌, length, take, drop, reverse, ◌⊎◌, ⊤}
 use Rattle.vm_outside.specs.Disk.{Image, Each}
+use Rattle.vm_outside.specs.Unsynced.{IsLeft, all_synced, after_write, after_drop}
+use Rattle.vm_outside.specs.declared.unsynced.Unsynced.{Unsynced}
 use Rattle.vm_outside.specs.declared.disk_call.DiskCall.{DiskCall}
 use Rattle.vm_outside.specs.declared.disk_call.DiskCall.TheVariants.{Len, Read, Write, Sync, DropFile}
-
--- a file between two syncs: the bytes of the last sync, where it was written since, each place with how
--- many bytes, and its greatest length since
-pub record Unsynced : Type 0 where
-  pub synced : List ℕ
-  pub ranges : List (ℕ × ℕ)
-  pub longest : ℕ
-
--- The place lies in one of the ranges.
-abbrev pub is_in : List (ℕ × ℕ) → ℕ → Bool
-is_in [] i = false
-is_in (range ∷ ranges) i = nat_le range.0 i && nat_lt i (range.0 + range.1) || is_in ranges i
-
--- What a crash may leave of it: any bytes in the ranges and the synced bytes elsewhere, in any length from
--- the synced one to the greatest.
-pub record IsLeft (file : Unsynced) (left : List ℕ) : Type 0 where
-  pub no_shorter : length file.synced ≤ length left
-  pub no_longer : length left ≤ file.longest
-  pub elsewhere : (i : ℕ) → i < length left → is_in file.ranges i ≡ false
-      → slice_get left i ≡ slice_get file.synced i
-
--- a file after a sync
-abbrev pub all_synced : List ℕ → Unsynced
-all_synced bytes = record { synced = bytes; ranges = []; longest = length bytes }
-
--- a file after a write of n bytes at a place, done or not, that doesn't lie past the file's end
-abbrev pub after_write : ℕ → ℕ → Unsynced → Unsynced
-after_write at n file = if nat_le at file.longest then
-    record { synced = file.synced; ranges = (at, n) ∷ file.ranges; longest = max file.longest (at + n) }
-    else file
-
--- a file after it was dropped, or was to be
-abbrev pub after_drop : Unsynced → Unsynced
-after_drop file = record { synced = []; ranges = (0, file.longest) ∷ []; longest = file.longest }
 
 -- bytes with these put at a place that doesn't lie past their end
 abbrev pub written : ℕ → List ℕ → List ℕ → List ℕ
 written at bytes old = if nat_le at (length old) then take at old ++ bytes ++ drop (at + length bytes) old else old
+
+-- the file that a call means
+abbrev pub file_of : DiskCall → ℕ
+file_of (Len f) = f
+file_of (Read f at n) = f
+file_of (Write f at bytes done) = f
+file_of (Sync f done) = f
+file_of (DropFile f done) = f
 
 -- what reads give of a file after these calls, the last one first
 abbrev pub replayed : Image → List DiskCall → Image
@@ -86,3 +62,11 @@ given (Read f at n ∷ past) = given past + n
 given (Write f at bytes done ∷ past) = given past
 given (Sync f done ∷ past) = given past
 given (DropFile f done ∷ past) = given past
+
+-- A write ends below 2^62, as each call must.
+abbrev pub fits : DiskCall → Bool
+fits (Len f) = true
+fits (Read f at n) = true
+fits (Write f at bytes done) = nat_le (at + length bytes) (2 ^ 62)
+fits (Sync f done) = true
+fits (DropFile f done) = true

@@ -3,7 +3,8 @@ use Rattle.std.specs.Prelude.{◌≡◌, ◌≤◌, ℕ, List, reverse, length}
 use Rattle.std.proofs.Common.{[], ◌∷◌, inl, ⊎_elim, sym, subst, arith}
 use Rattle.std.proofs.lemmas.List.{length-reverse}
 use Rattle.vm_outside.specs.Disk.{Image, Each}
-use Rattle.vm_outside.specs.MemDisk.{IsLeft, replayed, unsynced, remains, remains_since}
+use Rattle.vm_outside.specs.MemDisk.{replayed, unsynced, remains, remains_since}
+use Rattle.vm_outside.specs.Unsynced.{IsLeft}
 use Rattle.vm_outside.specs.declared.disk_call.DiskCall.{DiskCall}
 use Rattle.vm_outside.specs.UnsyncedLaws.{reads_left}
 

@@ -5,7 +5,9 @@ use Rattle.std.specs.Prelude.{nat_le, nat_lt, nat_eq, slice_get, if◌then◌els
 use Rattle.std.proofs.Math.ListN.{get_or}
 use Rattle.std.proofs.lemmas.List.{length-take, get_or-take, get_or-drop, get_or_append_left, ext_get_or, length-replicate}
 use Rattle.vm_outside.specs.Disk.{Image, Torn, Dropped}
-use Rattle.vm_outside.specs.MemDisk.{Unsynced, IsLeft, is_in, all_synced, after_write, after_drop, written, replayed, unsynced}
+use Rattle.vm_outside.specs.MemDisk.{written, replayed, unsynced}
+use Rattle.vm_outside.specs.Unsynced.{IsLeft, is_in, all_synced, after_write, after_drop}
+use Rattle.vm_outside.specs.declared.unsynced.Unsynced.{Unsynced}
 use Rattle.vm_outside.specs.declared.disk_call.DiskCall.{DiskCall}
 use Rattle.vm_outside.specs.declared.disk_call.DiskCall.TheVariants.{Len, Read, Write, Sync, DropFile}
 use Rattle.vm_outside.specs.Splices.{splice, splice_length, before_splice, in_splice, after_splice, same_byte, byte_within, byte_same}

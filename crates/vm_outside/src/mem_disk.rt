@@ -1,15 +1,16 @@
 //! A disk in memory, which tells what it holds and what a crash may leave.
-ghost use Rattle.std.specs.Prelude.{◌≡◌, ◌≤◌, ◌+◌, ℕ, List, [], ◌∷◌, ◌++◌, true, false, Bool, length, reverse, nat_eq, if◌then◌else◌, IsOk, IsErr, IfOk, OnOk, OnErr, min, ◌-◌, take, drop};
+ghost use Rattle.std.specs.Prelude.{◌≡◌, ◌≤◌, ◌+◌, ℕ, List, [], ◌∷◌, ◌++◌, true, false, Bool, length, reverse, ◌^◌, nat_eq, if◌then◌else◌, IsOk, IsErr, IfOk, OnOk, OnErr, min, ◌-◌, take, drop};
 ghost use Rattle.vm_outside.specs.Files.{content};
 ghost use Rattle.vm_outside.specs.Outside.{raised};
-ghost use Rattle.vm_outside.specs.MemDisk.{given, remains, remains_since, replayed, written};
+ghost use Rattle.std.specs.List.{list_all};
+ghost use Rattle.vm_outside.specs.MemDisk.{given, remains, remains_since, replayed, unsynced, written, fits};
 ghost use Rattle.vm_outside.specs.declared.disk_call.DiskCall.{DiskCall as Call};
 ghost use Rattle.vm_outside.specs.declared.disk_call.DiskCall.TheVariants.{Len, Read, Write, Sync, DropFile};
 ghost use Rattle.vm_outside.specs.MemDiskLaws.{reads_as_left, counted_now, only_last_now};
 
 use crate::failing_calls::FailingCalls;
 use crate::mem_files::Files;
-use crate::{Disk, DiskCall, Failed};
+use crate::{Disk, DiskCall, Failed, Unsynced};
 use std::alloc::{AllocError, Global};
 use vm_base::List;
 
@@ -29,10 +30,13 @@ pub struct MemDisk {
     failing: FailingCalls,
     read_faults: u64,
     write_faults: u64,
+    ghost fit: { list_all fits calls.items ≡ true },
     ghost replays: { (file : ℕ) → content files file ≡ replayed (content first) (reverse calls.items) file },
 }
 
 impl MemDisk {
+    ghost use Rattle.vm_outside.specs.DiskCalls.{calls_of, first_of};
+
     /// An empty disk that wasn't called yet, whose calls with these numbers, counted from 0, fail.
     pub fn new(alloc: Global, failing: Vec<u64>) -> MemDisk
         ensures reads { (file : ℕ) → ⟦<MemDisk as Disk>⟧.reads result file ≡ [] }
@@ -63,6 +67,52 @@ impl MemDisk {
         MemDisk::new(alloc, Vec::new(alloc))
     }
 
+    /// The same disk, not called yet, with these bytes in a file from the first.
+    pub fn holding(self, file: u64, bytes: &[u8]) -> Result<MemDisk, AllocError>
+        requires first { ⟦<MemDisk as Disk>⟧.moment self ≡ 0 }
+        ensures reads { IfOk result (λ disk. (f : ℕ) → ⟦<MemDisk as Disk>⟧.reads disk f
+            ≡ (if nat_eq file f then bytes.now else ⟦<MemDisk as Disk>⟧.reads self f)) }
+        ensures left { IfOk result (λ disk. (f : ℕ) (left : List ℕ) → ⟦<MemDisk as Disk>⟧.may_leave disk f left
+            → left ≡ ⟦<MemDisk as Disk>⟧.reads disk f) }
+        ensures moment { IfOk result (λ disk. ⟦<MemDisk as Disk>⟧.moment disk ≡ 0) }
+    {
+        let MemDisk {
+            alloc,
+            first,
+            files,
+            calls,
+            failing,
+            read_faults,
+            write_faults,
+        } = self;
+        let mut first = first;
+        let mut files = files;
+        first.set(file, Vec::from_slice(alloc, bytes)?)?;
+        files.set(file, Vec::from_slice(alloc, bytes)?)?;
+        Ok(MemDisk {
+            alloc,
+            first,
+            files,
+            calls,
+            failing,
+            read_faults,
+            write_faults,
+        })
+    }
+
+    /// What a crash after the first so many calls may leave of a file, or within the last of these.
+    pub fn unsynced(&self, calls: usize, file: u64) -> Result<Unsynced, AllocError>
+        requires { calls ≤ ⟦<MemDisk as Disk>⟧.moment self.now }
+        ensures { IfOk result (λ left. left ≡ unsynced (first_of self.now) (reverse (take calls (calls_of self.now))) file) }
+    {
+        let mut held = Vec::from_slice(self.alloc, self.first.bytes(file))?;
+        let mut left = Unsynced::all_synced(self.alloc, &held)?;
+        for call in &self.calls[..calls] {
+            left = left.after(self.alloc, file, call, &mut held)?;
+        }
+        Ok(left)
+    }
+
     /// The calls so far, the first one first.
     pub fn calls(&self) -> &[DiskCall]
         ensures { length result.now ≡ ⟦<MemDisk as Disk>⟧.moment self.now }
@@ -84,6 +134,7 @@ impl MemDisk {
     /// Writes a call down that changes no file. Without memory it doesn't.
     fn note(&mut self, call: DiskCall) -> Result<(), AllocError>
         requires still { IsStill call }
+        requires fits { fits call ≡ true }
         ensures noted { OnOk result (Notes call self.old self.new) }
         ensures not_noted { OnErr result (calls_of self.new ≡ calls_of self.old) }
         ensures keeps { Keeps self.old self.new }
@@ -111,6 +162,7 @@ impl MemDisk {
     /// A call of `len` or `read` that was to fail.
     fn fail_read(&mut self, call: DiskCall) -> Failed
         requires still { IsStill call }
+        requires fits { fits call ≡ true }
         ensures may_note { MayNote call self.old self.new }
         ensures kept { (first_of self.new ≡ first_of self.old) × (files_of self.new ≡ files_of self.old) }
         ensures counted { self.new.read_faults ≡ raised self.old.read_faults }
@@ -125,6 +177,7 @@ impl MemDisk {
     /// A call of `write`, `sync` or `drop_file` that was to fail.
     fn fail_write(&mut self, call: DiskCall) -> Failed
         requires still { IsStill call }
+        requires fits { fits call ≡ true }
         ensures may_note { MayNote call self.old self.new }
         ensures kept { (first_of self.new ≡ first_of self.old) × (files_of self.new ≡ files_of self.old) }
         ensures counted { self.new.write_faults ≡ raised self.old.write_faults }
@@ -138,6 +191,7 @@ impl MemDisk {
 
     /// A call of `write` that was to fail.
     fn fail_whole_write(&mut self, file: u64, at: u64, bytes: &[u8]) -> Failed
+        requires fits { at + length bytes.now ≤ 2 ^ 62 }
         ensures may_note { MayNote (Write file at bytes.now false) self.old self.new }
         ensures kept { (first_of self.new ≡ first_of self.old) × (files_of self.new ≡ files_of self.old) }
         ensures counted { self.new.write_faults ≡ raised self.old.write_faults }
@@ -165,6 +219,7 @@ fn write_down(
     bytes: &[u8],
 ) -> Result<(), AllocError>
     requires within { at ≤ length (content files.old file) }
+    requires fits { at + length bytes.now ≤ 2 ^ 62 }
     ensures noted { OnOk result (calls.new.items ≡ calls.old.items ++ Write file at bytes.now true ∷ []) }
     ensures written { OnOk result ((f : ℕ) → content files.new f
         ≡ (if nat_eq file f then written at bytes.now (content files.old f) else content files.old f)) }

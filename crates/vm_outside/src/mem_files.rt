@@ -59,7 +59,7 @@ impl Files {
 }
 
 /// Puts bytes over those at a place, and past the end. Without memory all stays as it was.
-fn write_at(held: &mut Vec<u8>, at: usize, bytes: &[u8]) -> Result<(), AllocError>
+pub(crate) fn write_at(held: &mut Vec<u8>, at: usize, bytes: &[u8]) -> Result<(), AllocError>
     requires { at ≤ length held.old.items }
     ensures written { OnOk result (held.new.items ≡ written at bytes.now held.old.items) }
     ensures kept { OnErr result (held.new.items ≡ held.old.items) }
