@@ -48,10 +48,10 @@ pub write_follows : (first : Image) (past : List DiskCall) (file at : ℕ) (byte
 write_follows first past file at bytes done = record {
   own = λ left is. was_torn at (length bytes) (unsynced first past file) left (covered first past file)
       (subst (λ b. IsLeft (if b then after_write at (length bytes) (unsynced first past file) else unsynced first past file) left)
-          (same_number file) is);
+      (same_number file) is);
   others = λ other apart left is.
       subst (λ b. IsLeft (if b then after_write at (length bytes) (unsynced first past other) else unsynced first past other) left)
-          (other_number file other apart) is;
+      (other_number file other apart) is;
 }
 
 pub drop_follows : (first : Image) (past : List DiskCall) (file : ℕ) (done : Bool)
@@ -59,10 +59,10 @@ pub drop_follows : (first : Image) (past : List DiskCall) (file : ℕ) (done : B
 drop_follows first past file done = record {
   own = λ left is. was_dropped (unsynced first past file) left (covered first past file)
       (subst (λ b. IsLeft (if b then after_drop (unsynced first past file) else unsynced first past file) left)
-          (same_number file) is);
+      (same_number file) is);
   others = λ other apart left is.
       subst (λ b. IsLeft (if b then after_drop (unsynced first past other) else unsynced first past other) left)
-          (other_number file other apart) is;
+      (other_number file other apart) is;
 }
 
 pub sync_no_more : (first : Image) (past : List DiskCall) (file : ℕ) → NoMore (remains first past) (remains first (Sync file true ∷ past))
@@ -78,13 +78,13 @@ pub sync_durable : (first : Image) (past : List DiskCall) (file : ℕ) (left : L
     → remains first (Sync file true ∷ past) file left → left ≡ replayed first past file
 sync_durable first past file left is =
     only_synced (replayed first past file) left
-        (subst (λ b. IsLeft (if b then all_synced (replayed first past file) else unsynced first past file) left) (same_number file) is)
+    (subst (λ b. IsLeft (if b then all_synced (replayed first past file) else unsynced first past file) left) (same_number file) is)
 
 -- the moments, one call on
 
 elapses_more : (first : Image) (past : List DiskCall) (call : DiskCall)
     → Elapses (length past) (length (call ∷ past)) (λ since image. remains_since first since past image)
-        (λ since image. remains_since first since (call ∷ past) image) (remains first (call ∷ past))
+    (λ since image. remains_since first since (call ∷ past) image) (remains first (call ∷ past))
 elapses_more first past call = record {
   later = omega arith;
   by_one = omega arith;
@@ -97,18 +97,18 @@ reverse_push calls call = reverse-append calls (call ∷ [])
 
 pub elapses_push : (first : Image) (calls later : List DiskCall) (call : DiskCall) → later ≡ calls ++ call ∷ []
     → Elapses (length calls) (length later) (λ since image. remains_since first since (reverse calls) image)
-        (λ since image. remains_since first since (reverse later) image) (remains first (reverse later))
+    (λ since image. remains_since first since (reverse later) image) (remains first (reverse later))
 elapses_push first calls later call is =
     let n : length calls ≡ length (reverse calls) = sym (length-reverse calls) in
     let m : length later ≡ length (call ∷ reverse calls) =
-        ap length is ∙ omega (arith, length-append calls (call ∷ []), length-reverse calls) in
+    ap length is ∙ omega (arith, length-append calls (call ∷ []), length-reverse calls) in
     let r : reverse later ≡ call ∷ reverse calls = ap (λ l. reverse l) is ∙ reverse_push calls call in
     rw (n, m, r) (elapses_more first (reverse calls) call)
 
 -- no call was made
 pub elapses_not : (first : Image) (calls : List DiskCall)
     → Elapses (length calls) (length calls) (λ since image. remains_since first since (reverse calls) image)
-        (λ since image. remains_since first since (reverse calls) image) (remains first (reverse calls))
+    (λ since image. remains_since first since (reverse calls) image) (remains first (reverse calls))
 elapses_not first calls = record {
   later = omega arith;
   by_one = omega arith;
@@ -121,50 +121,50 @@ elapses_not first calls = record {
 pub noted_elapses : (first now : Image) (calls later : List DiskCall) (call : DiskCall) → now ≡ first
     → later ≡ calls ++ call ∷ []
     → Elapses (length calls) (length later) (λ since image. remains_since first since (reverse calls) image)
-        (λ since image. remains_since now since (reverse later) image) (remains now (reverse later))
+    (λ since image. remains_since now since (reverse later) image) (remains now (reverse later))
 noted_elapses first now calls later call same is =
     subst (λ f. Elapses (length calls) (length later) (λ since image. remains_since first since (reverse calls) image)
-        (λ since image. remains_since f since (reverse later) image) (remains f (reverse later)))
-        (sym same) (elapses_push first calls later call is)
+    (λ since image. remains_since f since (reverse later) image) (remains f (reverse later)))
+    (sym same) (elapses_push first calls later call is)
 
 pub may_elapse : (first now : Image) (calls later : List DiskCall) (call : DiskCall) → now ≡ first
     → (later ≡ calls ++ call ∷ []) ⊎ (later ≡ calls)
     → Elapses (length calls) (length later) (λ since image. remains_since first since (reverse calls) image)
-        (λ since image. remains_since now since (reverse later) image) (remains now (reverse later))
+    (λ since image. remains_since now since (reverse later) image) (remains now (reverse later))
 may_elapse first now calls later call same (inl is) = noted_elapses first now calls later call same is
 may_elapse first now calls later call same (inr is) =
     subst (λ f. Elapses (length calls) (length later) (λ since image. remains_since first since (reverse calls) image)
-        (λ since image. remains_since f since (reverse later) image) (remains f (reverse later)))
-        (sym same)
-        (subst (λ l. Elapses (length calls) (length l) (λ since image. remains_since first since (reverse calls) image)
-            (λ since image. remains_since first since (reverse l) image) (remains first (reverse l)))
-            (sym is) (elapses_not first calls))
+    (λ since image. remains_since f since (reverse later) image) (remains f (reverse later)))
+    (sym same)
+    (subst (λ l. Elapses (length calls) (length l) (λ since image. remains_since first since (reverse calls) image)
+    (λ since image. remains_since first since (reverse l) image) (remains first (reverse l)))
+    (sym is) (elapses_not first calls))
 
 -- what is left after a call that was written down
 noted_left : (first now : Image) (calls later : List DiskCall) (call : DiskCall) (file : ℕ) (left : List ℕ) → now ≡ first
     → later ≡ calls ++ call ∷ [] → remains now (reverse later) file left → remains first (call ∷ reverse calls) file left
 noted_left first now calls later call file left same is remained =
     subst (λ f. remains f (call ∷ reverse calls) file left) same
-        (subst (λ past. remains now past file left) (ap (λ l. reverse l) is ∙ reverse_push calls call) remained)
+    (subst (λ past. remains now past file left) (ap (λ l. reverse l) is ∙ reverse_push calls call) remained)
 
 same_left : (first now : Image) (calls later : List DiskCall) (file : ℕ) (left : List ℕ) → now ≡ first
     → later ≡ calls → remains now (reverse later) file left → remains first (reverse calls) file left
 same_left first now calls later file left same is remained =
     subst (λ f. remains f (reverse calls) file left) same
-        (subst (λ l. remains now (reverse l) file left) is remained)
+    (subst (λ l. remains now (reverse l) file left) is remained)
 
 pub noted_sync_no_more : (first now : Image) (calls later : List DiskCall) (file : ℕ) → now ≡ first
     → later ≡ calls ++ Sync file true ∷ [] → NoMore (remains first (reverse calls)) (remains now (reverse later))
 noted_sync_no_more first now calls later file same is other left remained =
     sync_no_more first (reverse calls) file other left
-        (noted_left first now calls later (Sync file true) other left same is remained)
+    (noted_left first now calls later (Sync file true) other left same is remained)
 
 pub noted_sync_durable : (first now : Image) (calls later : List DiskCall) (file : ℕ) (content : List ℕ) → now ≡ first
     → later ≡ calls ++ Sync file true ∷ [] → content ≡ replayed first (reverse calls) file
     → (left : List ℕ) → remains now (reverse later) file left → left ≡ content
 noted_sync_durable first now calls later file content same is holds left remained =
     sync_durable first (reverse calls) file left
-        (noted_left first now calls later (Sync file true) file left same is remained)
+    (noted_left first now calls later (Sync file true) file left same is remained)
     ∙ sym holds
 
 pub may_write : (first now : Image) (calls later : List DiskCall) (file at : ℕ) (bytes : List ℕ) (done : Bool) → now ≡ first
@@ -172,7 +172,7 @@ pub may_write : (first now : Image) (calls later : List DiskCall) (file at : ℕ
     → Follows file (Torn at (length bytes)) (remains first (reverse calls)) (remains now (reverse later))
 may_write first now calls later file at bytes done same (inl is) =
     let follows : Follows file (Torn at (length bytes)) (remains first (reverse calls)) (remains first (Write file at bytes done ∷ reverse calls)) =
-        write_follows first (reverse calls) file at bytes done in
+    write_follows first (reverse calls) file at bytes done in
     record {
       own = λ left remained. follows.own left (noted_left first now calls later (Write file at bytes done) file left same is remained);
       others = λ other apart left remained.
@@ -188,7 +188,7 @@ pub may_drop : (first now : Image) (calls later : List DiskCall) (file : ℕ) (d
     → Follows file Dropped (remains first (reverse calls)) (remains now (reverse later))
 may_drop first now calls later file done same (inl is) =
     let follows : Follows file Dropped (remains first (reverse calls)) (remains first (DropFile file done ∷ reverse calls)) =
-        drop_follows first (reverse calls) file done in
+    drop_follows first (reverse calls) file done in
     record {
       own = λ left remained. follows.own left (noted_left first now calls later (DropFile file done) file left same is remained);
       others = λ other apart left remained.

@@ -5,7 +5,6 @@ use Rattle.std.specs.Prelude.{◌≡◌, ◌≢◌, ◌≤◌, ◌<◌, ℕ, ◌
 abbrev pub Image : Type 0
 Image = ℕ → List ℕ
 
-
 -- The new content is the old one with these bytes at this place.
 abbrev pub Holds : ℕ → List ℕ → List ℕ → List ℕ → Type 0
 Holds at bytes old new = new ≡ take at old ++ bytes ++ drop (at + length bytes) old

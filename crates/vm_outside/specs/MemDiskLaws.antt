@@ -32,4 +32,4 @@ pub only_last_now : (first : Image) (calls : List DiskCall) (image : Image)
     → remains_since first (length calls) (reverse calls) image → Each (remains first (reverse calls)) image
 only_last_now first calls image left =
     only_last first (reverse calls) image
-        (subst (λ n. remains_since first n (reverse calls) image) (sym (length-reverse calls)) left)
+    (subst (λ n. remains_since first n (reverse calls) image) (sym (length-reverse calls)) left)

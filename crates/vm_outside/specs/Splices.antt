@@ -17,8 +17,14 @@ parts at bytes old = append_assoc (take at old) bytes (drop (at + length bytes) 
 pub splice_length : (at : ℕ) (bytes old : List ℕ) → at ≤ length old
     → length (splice at bytes old) ≡ max (length old) (at + length bytes)
 splice_length at bytes old within =
-    omega (arith, ap length (parts at bytes old), length-append (take at old) (bytes ++ drop (at + length bytes) old),
-        length-append bytes (drop (at + length bytes) old), length-take at old, length-drop (at + length bytes) old)
+    omega (
+      arith,
+      ap length (parts at bytes old),
+      length-append (take at old) (bytes ++ drop (at + length bytes) old),
+      length-append bytes (drop (at + length bytes) old),
+      length-take at old,
+      length-drop (at + length bytes) old,
+    )
 
 pub before_splice : (at i : ℕ) (bytes old : List ℕ) → at ≤ length old → i < at
     → get_or (splice at bytes old) i 0 ≡ get_or old i 0

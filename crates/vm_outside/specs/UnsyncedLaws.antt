@@ -51,7 +51,7 @@ after_write_covered at n file covered = go (nat_le at file.longest) refl
 after_drop_covered : (file : Unsynced) → IsCovered (after_drop file)
 after_drop_covered file = record {
   fits = omega arith;
-  covers = λ i from less. in_range 0 file.longest i [] (omega arith) (omega (arith, less))
+  covers = λ i from less. in_range 0 file.longest i [] (omega arith) (omega (arith, less));
 }
 
 chosen_covered : (b : Bool) (file other : Unsynced) → IsCovered file → IsCovered other → IsCovered (if b then file else other)
@@ -64,14 +64,14 @@ covered first (Len f ∷ past) file = covered first past file
 covered first (Read f at n ∷ past) file = covered first past file
 covered first (Write f at bytes done ∷ past) file =
     chosen_covered (nat_eq f file) (after_write at (length bytes) (unsynced first past file)) (unsynced first past file)
-        (after_write_covered at (length bytes) (unsynced first past file) (covered first past file)) (covered first past file)
+    (after_write_covered at (length bytes) (unsynced first past file) (covered first past file)) (covered first past file)
 covered first (Sync f true ∷ past) file =
     chosen_covered (nat_eq f file) (all_synced (replayed first past file)) (unsynced first past file)
-        (all_synced_covered (replayed first past file)) (covered first past file)
+    (all_synced_covered (replayed first past file)) (covered first past file)
 covered first (Sync f false ∷ past) file = covered first past file
 covered first (DropFile f done ∷ past) file =
     chosen_covered (nat_eq f file) (after_drop (unsynced first past file)) (unsynced first past file)
-        (after_drop_covered (unsynced first past file)) (covered first past file)
+    (after_drop_covered (unsynced first past file)) (covered first past file)
 
 -- what lies in no range lies within the synced bytes
 synced_within : (file : Unsynced) (i : ℕ) → IsCovered file → i < file.longest → is_in file.ranges i ≡ false
@@ -89,7 +89,7 @@ synced_left bytes = record { no_shorter = omega arith; no_longer = omega arith; 
 pub only_synced : (bytes left : List ℕ) → IsLeft (all_synced bytes) left → left ≡ bytes
 only_synced bytes left is =
     ext_get_or 0 left bytes (omega (arith, is.no_shorter, is.no_longer))
-        (λ i less. byte_same left bytes i less (is.elsewhere i less refl))
+    (λ i less. byte_same left bytes i less (is.elsewhere i less refl))
 
 pub torn_itself : (at n : ℕ) (left : List ℕ) → Torn at n left left
 torn_itself at n left = record { before = refl; after = refl; no_shorter = omega arith; no_longer = omega arith }
@@ -120,11 +120,15 @@ module _ (at n : ℕ) (file : Unsynced) (left : List ℕ) (is : IsCovered file) 
 
   -- the range lies behind all that is left: nothing was torn
   short : length cut < at → (before : List ℕ) × IsLeft file before × Torn at n before left
-  short less = (left, record {
+  short less = (
+    left,
+    record {
       no_shorter = image.no_shorter;
       no_longer = omega (arith, less, cut_length, order);
       elsewhere = λ i within out. image.elsewhere i within (before_range at n i file.ranges (omega (arith, less, cut_length, order, within)) out);
-    }, torn_itself at n left)
+    },
+    torn_itself at n left,
+  )
 
   abbrev was : List ℕ
   was = splice at bytes cut
@@ -169,33 +173,37 @@ module _ (at n : ℕ) (file : Unsynced) (left : List ℕ) (is : IsCovered file) 
   same_front within = ext_get_or 0 (take at left) (take at was)
       (omega (arith, length-take at left, length-take at was, was_length within, cut_length, within))
       (λ i less. let front : i < at = omega (arith, less, length-take at left) in
-          get_or-take at left i 0 front
-          ∙ sym (cut_byte i (omega (arith, front, within)))
-          ∙ sym (before_splice at i bytes cut within front)
-          ∙ sym (get_or-take at was i 0 front))
+      get_or-take at left i 0 front
+      ∙ sym (cut_byte i (omega (arith, front, within)))
+      ∙ sym (before_splice at i bytes cut within front)
+      ∙ sym (get_or-take at was i 0 front))
 
   same_back : at ≤ length cut → drop (at + n) left ≡ drop (at + n) was
   same_back within = ext_get_or 0 (drop (at + n) left) (drop (at + n) was)
       (omega (arith, length-drop (at + n) left, length-drop (at + n) was, was_length within, cut_length, image.no_longer))
       (λ i less. let in_left : at + n + i < length left = omega (arith, less, length-drop (at + n) left) in
-          get_or-drop (at + n) left i 0
-          ∙ sym (cut_byte (at + n + i) (omega (arith, cut_length, in_left, image.no_longer)))
-          ∙ sym (after_splice at (at + n + i) bytes cut within (omega (arith, bytes_length)))
-          ∙ sym (get_or-drop (at + n) was i 0))
+      get_or-drop (at + n) left i 0
+      ∙ sym (cut_byte (at + n + i) (omega (arith, cut_length, in_left, image.no_longer)))
+      ∙ sym (after_splice at (at + n + i) bytes cut within (omega (arith, bytes_length)))
+      ∙ sym (get_or-drop (at + n) was i 0))
 
   long : at ≤ length cut → (before : List ℕ) × IsLeft file before × Torn at n before left
-  long within = (was, record {
+  long within = (
+    was,
+    record {
       no_shorter = omega (arith, was_length within, cut_length, image.no_shorter, is.fits);
       no_longer = omega (arith, was_length within, cut_length);
       elsewhere = λ i less out. same_byte was file.synced i less
           (synced_within file i is (omega (arith, less, was_length within, cut_length)) out)
           (was_left within i less out);
-    }, record {
+    },
+    record {
       before = same_front within;
       after = same_back within;
       no_shorter = omega (arith, was_length within, cut_length);
       no_longer = omega (arith, was_length within, cut_length, image.no_longer);
-    })
+    },
+  )
 
   was_torn_within : (before : List ℕ) × IsLeft file before × Torn at n before left
   was_torn_within = go (nat_lt (length cut) at) refl
@@ -220,8 +228,12 @@ abbrev padded : Unsynced → List ℕ
 padded file = file.synced ++ replicate (file.longest - length file.synced) 0
 
 padded_length : (file : Unsynced) → IsCovered file → length (padded file) ≡ file.longest
-padded_length file is = omega (arith, length-append file.synced (replicate (file.longest - length file.synced) 0),
-    length-replicate {A = ℕ} (file.longest - length file.synced) 0, is.fits)
+padded_length file is = omega (
+  arith,
+  length-append file.synced (replicate (file.longest - length file.synced) 0),
+  length-replicate {A = ℕ} (file.longest - length file.synced) 0,
+  is.fits,
+)
 
 padded_left : (file : Unsynced) → IsCovered file → IsLeft file (padded file)
 padded_left file is = record {
@@ -230,7 +242,7 @@ padded_left file is = record {
   elsewhere = λ i less out.
       let within : i < length file.synced = synced_within file i is (omega (arith, less, padded_length file is)) out in
       same_byte (padded file) file.synced i less within
-          (get_or_append_left file.synced (replicate (file.longest - length file.synced) 0) 0 i within);
+      (get_or_append_left file.synced (replicate (file.longest - length file.synced) 0) 0 i within);
 }
 
 -- what a crash may leave of a dropped file is no longer than something that it might have left before
@@ -262,7 +274,7 @@ unwritten_left at n file left image = go (nat_le at file.longest)
 -- a file that a write changed
 spliced_left : (at : ℕ) (bytes : List ℕ) (file : Unsynced) (left : List ℕ) → IsLeft file left → at ≤ length left
     → IsLeft (record { synced = file.synced; ranges = (at, length bytes) ∷ file.ranges; longest = max file.longest (at + length bytes) })
-        (splice at bytes left)
+    (splice at bytes left)
 spliced_left at bytes file left image within = record {
   no_shorter = omega (arith, splice_length at bytes left within, image.no_shorter);
   no_longer = omega (arith, splice_length at bytes left within, image.no_longer);
@@ -282,7 +294,7 @@ spliced_left at bytes file left image within = record {
     behind i less from out false is =
         let past : at + length bytes ≤ i = grind (arith, nat_tests, is) in
         stays i less (omega (arith, less, splice_length at bytes left within, past)) out
-            (after_splice at i bytes left within past)
+        (after_splice at i bytes left within past)
 
     same : (i : ℕ) → i < length (splice at bytes left) → is_in ((at, length bytes) ∷ file.ranges) i ≡ false
         → (b : Bool) → nat_lt i at ≡ b → slice_get (splice at bytes left) i ≡ slice_get file.synced i
@@ -328,22 +340,22 @@ reads_left first (Len f ∷ past) file = reads_left first past file
 reads_left first (Read f at n ∷ past) file = reads_left first past file
 reads_left first (Write f at bytes true ∷ past) file =
     chosen_both (nat_eq f file) (after_write at (length bytes) (unsynced first past file)) (unsynced first past file)
-        (written at bytes (replayed first past file)) (replayed first past file)
-        (written_left at bytes (unsynced first past file) (replayed first past file) (reads_left first past file))
-        (reads_left first past file)
+    (written at bytes (replayed first past file)) (replayed first past file)
+    (written_left at bytes (unsynced first past file) (replayed first past file) (reads_left first past file))
+    (reads_left first past file)
 reads_left first (Write f at bytes false ∷ past) file =
     chosen_left (nat_eq f file) (after_write at (length bytes) (unsynced first past file)) (unsynced first past file)
-        (replayed first past file)
-        (unwritten_left at (length bytes) (unsynced first past file) (replayed first past file) (reads_left first past file))
-        (reads_left first past file)
+    (replayed first past file)
+    (unwritten_left at (length bytes) (unsynced first past file) (replayed first past file) (reads_left first past file))
+    (reads_left first past file)
 reads_left first (Sync f true ∷ past) file =
     chosen_left (nat_eq f file) (all_synced (replayed first past file)) (unsynced first past file) (replayed first past file)
-        (synced_left (replayed first past file)) (reads_left first past file)
+    (synced_left (replayed first past file)) (reads_left first past file)
 reads_left first (Sync f false ∷ past) file = reads_left first past file
 reads_left first (DropFile f true ∷ past) file =
     chosen_both (nat_eq f file) (after_drop (unsynced first past file)) (unsynced first past file) [] (replayed first past file)
-        (dropped_left (unsynced first past file) [] (omega arith)) (reads_left first past file)
+    (dropped_left (unsynced first past file) [] (omega arith)) (reads_left first past file)
 reads_left first (DropFile f false ∷ past) file =
     chosen_left (nat_eq f file) (after_drop (unsynced first past file)) (unsynced first past file) (replayed first past file)
-        (dropped_left (unsynced first past file) (replayed first past file) ((reads_left first past file).no_longer))
-        (reads_left first past file)
+    (dropped_left (unsynced first past file) (replayed first past file) ((reads_left first past file).no_longer))
+    (reads_left first past file)

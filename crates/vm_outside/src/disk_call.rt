@@ -8,9 +8,15 @@ use vm_base::List;
 #[derive(Debug, Drop)]
 pub enum DiskCall {
     /// The length of a file was asked for.
-    Len { file: u64 },
+    Len {
+        file: u64,
+    },
     /// A file was read from a place on, and so many bytes were given: none where the call failed.
-    Read { file: u64, at: u64, given: u64 },
+    Read {
+        file: u64,
+        at: u64,
+        given: u64,
+    },
     /// These bytes were to be put at a place of a file.
     Write {
         file: u64,
@@ -19,9 +25,15 @@ pub enum DiskCall {
         done: bool,
     },
     /// A file was to be synced.
-    Sync { file: u64, done: bool },
+    Sync {
+        file: u64,
+        done: bool,
+    },
     /// A file was to be made empty.
-    DropFile { file: u64, done: bool },
+    DropFile {
+        file: u64,
+        done: bool,
+    },
 }
 
 impl DiskCall {
@@ -31,8 +43,17 @@ impl DiskCall {
     {
         match self {
             DiskCall::Len { file } => *file,
-            DiskCall::Read { file, at: _, given: _ } => *file,
-            DiskCall::Write { file, at: _, bytes: _, done: _ } => *file,
+            DiskCall::Read {
+                file,
+                at: _,
+                given: _,
+            } => *file,
+            DiskCall::Write {
+                file,
+                at: _,
+                bytes: _,
+                done: _,
+            } => *file,
             DiskCall::Sync { file, done: _ } => *file,
             DiskCall::DropFile { file, done: _ } => *file,
         }

@@ -12,7 +12,12 @@ fn disk_of(alloc: Global, failing: &[u64]) -> Result<MemDisk, AllocError> {
 
 /// What a crash after so many calls may leave of file 1: `+` for each of these contents that it may, `-`
 /// for each that it may not.
-fn left(disk: &MemDisk, alloc: Global, calls: usize, contents: &[&[u8]]) -> Result<Vec<u8>, AllocError> {
+fn left(
+    disk: &MemDisk,
+    alloc: Global,
+    calls: usize,
+    contents: &[&[u8]],
+) -> Result<Vec<u8>, AllocError> {
     let mut said = Vec::new(alloc);
     if calls > disk.calls().len() {
         return Ok(said);
@@ -51,7 +56,11 @@ fn a_write_may_be_torn(rt: HostRuntime) -> Result<(), Fail> {
         (3, b"++++---".as_slice()),
         (4, b"-+-----".as_slice()),
     ] {
-        assert_eq!(rt; left(&disk, alloc, calls, &contents)?.as_slice(), want, "after {calls} calls");
+        assert_eq!(rt;
+            left(&disk, alloc, calls, &contents)?.as_slice(),
+            want,
+            "after {calls} calls"
+        );
     }
     Ok(())
 }
@@ -83,7 +92,11 @@ fn lengths_may_differ(rt: HostRuntime) -> Result<(), Fail> {
         (2, b"+++++++-".as_slice()),
         (3, b"-----+--".as_slice()),
     ] {
-        assert_eq!(rt; left(&disk, alloc, calls, &contents)?.as_slice(), want, "after {calls} calls");
+        assert_eq!(rt;
+            left(&disk, alloc, calls, &contents)?.as_slice(),
+            want,
+            "after {calls} calls"
+        );
     }
     assert_eq!(rt; disk.bytes(2), b"xy".as_slice());
     Ok(())

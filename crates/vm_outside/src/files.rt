@@ -34,12 +34,7 @@ impl From<AllocError> for ReadFault {
 
 /// Puts bytes into a file, over what stands there and past its end, and waits until a crash leaves
 /// them. After an error a crash may leave any bytes in that range.
-pub fn write_and_sync<D: Disk>(
-    disk: &mut D,
-    file: u64,
-    at: u64,
-    bytes: &[u8],
-) -> Result<(), Failed>
+pub fn write_and_sync<D: Disk>(disk: &mut D, file: u64, at: u64, bytes: &[u8]) -> Result<(), Failed>
     requires fits { at + length bytes.now ≤ 2 ^ 62 }
     requires no_gap { IsTrue (D.honest disk.old) → at ≤ length (D.reads disk.old file) }
     // What `Ok` holds.

@@ -1,5 +1,5 @@
 //! A disk in memory, which tells what it holds and what a crash may leave.
-ghost use Rattle.std.specs.Prelude.{◌≡◌, ◌≤◌, ◌+◌, ℕ, List, [], ◌∷◌, ◌++◌, true, false, Bool, length, reverse, ◌^◌, nat_eq, if◌then◌else◌, IsOk, IsErr, IfOk, OnOk, OnErr, min, ◌-◌, take, drop};
+ghost use Rattle.std.specs.Prelude.{◌≡◌, ◌≤◌, ◌+◌, ℕ, List, [], ◌∷◌, ◌++◌, true, false, Bool, length, reverse, ◌^◌, ◌⊎◌, nat_eq, if◌then◌else◌, IsOk, IsErr, IfOk, OnOk, OnErr, MatchResult, min, ◌-◌, take, drop};
 ghost use Rattle.vm_outside.specs.Files.{content};
 ghost use Rattle.vm_outside.specs.Outside.{raised};
 ghost use Rattle.std.specs.List.{list_all};
@@ -167,6 +167,7 @@ impl MemDisk {
         ensures kept { (first_of self.new ≡ first_of self.old) × (files_of self.new ≡ files_of self.old) }
         ensures counted { self.new.read_faults ≡ raised self.old.read_faults }
         ensures write_faults { self.new.write_faults ≡ self.old.write_faults }
+        ensures failing { self.new.failing ≡ self.old.failing }
     {
         match self.note(call) {
             Ok(()) => self.read_failed(),
@@ -182,6 +183,7 @@ impl MemDisk {
         ensures kept { (first_of self.new ≡ first_of self.old) × (files_of self.new ≡ files_of self.old) }
         ensures counted { self.new.write_faults ≡ raised self.old.write_faults }
         ensures read_faults { self.new.read_faults ≡ self.old.read_faults }
+        ensures failing { self.new.failing ≡ self.old.failing }
     {
         match self.note(call) {
             Ok(()) => self.write_failed(),
@@ -196,6 +198,7 @@ impl MemDisk {
         ensures kept { (first_of self.new ≡ first_of self.old) × (files_of self.new ≡ files_of self.old) }
         ensures counted { self.new.write_faults ≡ raised self.old.write_faults }
         ensures read_faults { self.new.read_faults ≡ self.old.read_faults }
+        ensures failing { self.new.failing ≡ self.old.failing }
     {
         match Vec::from_slice(self.alloc, bytes) {
             Ok(copy) => self.fail_write(DiskCall::Write {
@@ -227,7 +230,12 @@ fn write_down(
     ensures kept { OnErr result ((f : ℕ) → content files.new f ≡ content files.old f) }
 {
     let copy = List::from_vec(Vec::from_slice(alloc, bytes)?);
-    calls.push(DiskCall::Write { file, at, bytes: copy, done: true })?;
+    calls.push(DiskCall::Write {
+        file,
+        at,
+        bytes: copy,
+        done: true,
+    })?;
     match files.write(alloc, file, at as usize, bytes) {
         Ok(()) => Ok(()),
         Err(AllocError) => {
@@ -238,7 +246,12 @@ fn write_down(
 }
 
 /// Makes a file empty, and writes the call down. Without memory neither is done.
-fn empty_down(alloc: Global, files: &mut Files, calls: &mut Vec<DiskCall>, file: u64) -> Result<(), AllocError>
+fn empty_down(
+    alloc: Global,
+    files: &mut Files,
+    calls: &mut Vec<DiskCall>,
+    file: u64,
+) -> Result<(), AllocError>
     ensures noted { OnOk result (calls.new.items ≡ calls.old.items ++ DropFile file true ∷ []) }
     ensures emptied { OnOk result ((f : ℕ) → content files.new f
         ≡ (if nat_eq file f then [] else content files.old f)) }
@@ -269,6 +282,10 @@ fn give(bytes: &[u8], at: u64, into: &mut [u8]) -> usize
 }
 
 impl Disk for MemDisk {
+    ghost use Rattle.std.specs.Prelude.{is_ok, is_err};
+    ghost use Rattle.vm_outside.specs.DiskCalls.{IsMade, Passes, files_of, given_by, given_of, left_of};
+    ghost use Rattle.vm_outside.specs.Disk.{Changes, Dropped, Emptied, Follows, Holds, NoMore, Torn};
+
     ghost honest = { λ disk. true };
 
     ghost reads = { λ disk file. content disk.files file };
@@ -291,7 +308,17 @@ impl Disk for MemDisk {
 
     ghost only_now = { λ disk image left. only_last_now (content disk.first) disk.calls.items image left };
 
-    fn len(&mut self, file: u64) -> Result<u64, Failed> {
+    fn len(&mut self, file: u64) -> Result<u64, Failed>
+        ensures value { IfOk result (λ n. n ≡ length (files_of self.old file)) }
+        ensures kept { files_of self.new ≡ files_of self.old }
+        ensures bytes_read { given_of self.new ≡ given_of self.old }
+        ensures crash { NoMore (left_of self.old) (left_of self.new) }
+        ensures time { Passes self.old self.new }
+        ensures made { IsMade (Len file) (Len file) (is_ok result) self.old self.new }
+        ensures counted { self.new.read_faults
+            ≡ (if is_err result then raised self.old.read_faults else self.old.read_faults) }
+        ensures write_faults { self.new.write_faults ≡ self.old.write_faults }
+    {
         if self.failing.begin() {
             return Err(self.fail_read(DiskCall::Len { file }));
         }
@@ -301,28 +328,74 @@ impl Disk for MemDisk {
         }
     }
 
-    fn read(&mut self, file: u64, at: u64, into: &mut [u8]) -> Result<usize, Failed> {
+    fn read(&mut self, file: u64, at: u64, into: &mut [u8]) -> Result<usize, Failed>
+        ensures count { IfOk result (λ n. n ≡ min (length into.old) (length (files_of self.old file) - at)) }
+        ensures bytes { IfOk result (λ n. into.new ≡ take n (drop at (files_of self.old file)) ++ drop n into.old) }
+        ensures kept { files_of self.new ≡ files_of self.old }
+        ensures bytes_read { MatchResult result (λ n. given_of self.new ≡ given_of self.old + n)
+            (λ _. given_of self.new ≡ given_of self.old) }
+        ensures crash { NoMore (left_of self.old) (left_of self.new) }
+        ensures time { Passes self.old self.new }
+        ensures made { IsMade (Read file at (given_by result)) (Read file at 0) (is_ok result) self.old self.new }
+        ensures counted { self.new.read_faults
+            ≡ (if is_err result then raised self.old.read_faults else self.old.read_faults) }
+        ensures write_faults { self.new.write_faults ≡ self.old.write_faults }
+    {
         if self.failing.begin() {
             return Err(self.fail_read(DiskCall::Read { file, at, given: 0 }));
         }
         let n = give(self.files.bytes(file), at, into);
-        match self.note(DiskCall::Read { file, at, given: n as u64 }) {
+        match self.note(DiskCall::Read {
+            file,
+            at,
+            given: n as u64,
+        }) {
             Ok(()) => Ok(n),
             Err(AllocError) => Err(self.read_failed()),
         }
     }
 
-    fn write(&mut self, file: u64, at: u64, bytes: &[u8]) -> Result<(), Failed> {
+    fn write(&mut self, file: u64, at: u64, bytes: &[u8]) -> Result<(), Failed>
+        requires fits { at + length bytes.now ≤ 2 ^ 62 }
+        requires no_gap { at ≤ length (files_of self.old file) }
+        ensures written { OnOk result (Changes file (Holds at bytes.now) (files_of self.old) (files_of self.new)) }
+        ensures torn { OnErr result (Changes file (Torn at (length bytes.now)) (files_of self.old) (files_of self.new)) }
+        ensures kept { OnErr result ((f : ℕ) → files_of self.new f ≡ files_of self.old f) }
+        ensures bytes_read { given_of self.new ≡ given_of self.old }
+        ensures crash { Follows file (Torn at (length bytes.now)) (left_of self.old) (left_of self.new) }
+        ensures time { Passes self.old self.new }
+        ensures made { IsMade (Write file at bytes.now true) (Write file at bytes.now false) (is_ok result) self.old self.new }
+        ensures counted { self.new.write_faults
+            ≡ (if is_err result then raised self.old.write_faults else self.old.write_faults) }
+        ensures read_faults { self.new.read_faults ≡ self.old.read_faults }
+    {
         if self.failing.begin() {
             return Err(self.fail_whole_write(file, at, bytes));
         }
-        match write_down(self.alloc, &mut self.files, &mut self.calls, file, at, bytes) {
+        match write_down(
+            self.alloc,
+            &mut self.files,
+            &mut self.calls,
+            file,
+            at,
+            bytes,
+        ) {
             Ok(()) => Ok(()),
             Err(AllocError) => Err(self.write_failed()),
         }
     }
 
-    fn sync(&mut self, file: u64) -> Result<(), Failed> {
+    fn sync(&mut self, file: u64) -> Result<(), Failed>
+        ensures kept { files_of self.new ≡ files_of self.old }
+        ensures durable { OnOk result ((left : List ℕ) → left_of self.new file left → left ≡ files_of self.old file) }
+        ensures bytes_read { given_of self.new ≡ given_of self.old }
+        ensures crash { NoMore (left_of self.old) (left_of self.new) }
+        ensures time { Passes self.old self.new }
+        ensures made { IsMade (Sync file true) (Sync file false) (is_ok result) self.old self.new }
+        ensures counted { self.new.write_faults
+            ≡ (if is_err result then raised self.old.write_faults else self.old.write_faults) }
+        ensures read_faults { self.new.read_faults ≡ self.old.read_faults }
+    {
         if self.failing.begin() {
             return Err(self.fail_write(DiskCall::Sync { file, done: false }));
         }
@@ -332,7 +405,18 @@ impl Disk for MemDisk {
         }
     }
 
-    fn drop_file(&mut self, file: u64) -> Result<(), Failed> {
+    fn drop_file(&mut self, file: u64) -> Result<(), Failed>
+        ensures dropped { OnOk result (Changes file Emptied (files_of self.old) (files_of self.new)) }
+        ensures torn { OnErr result ((files_of self.new ≡ files_of self.old) ⊎ Changes file Emptied (files_of self.old) (files_of self.new)) }
+        ensures kept { OnErr result (files_of self.new ≡ files_of self.old) }
+        ensures bytes_read { given_of self.new ≡ given_of self.old }
+        ensures crash { Follows file Dropped (left_of self.old) (left_of self.new) }
+        ensures time { Passes self.old self.new }
+        ensures made { IsMade (DropFile file true) (DropFile file false) (is_ok result) self.old self.new }
+        ensures counted { self.new.write_faults
+            ≡ (if is_err result then raised self.old.write_faults else self.old.write_faults) }
+        ensures read_faults { self.new.read_faults ≡ self.old.read_faults }
+    {
         if self.failing.begin() {
             return Err(self.fail_write(DiskCall::DropFile { file, done: false }));
         }

@@ -45,7 +45,13 @@ impl Files {
     }
 
     /// Puts bytes into a file at a place within it. Without memory all stays as it was.
-    pub(crate) fn write(&mut self, alloc: Global, file: u64, at: usize, bytes: &[u8]) -> Result<(), AllocError>
+    pub(crate) fn write(
+        &mut self,
+        alloc: Global,
+        file: u64,
+        at: usize,
+        bytes: &[u8],
+    ) -> Result<(), AllocError>
         requires { at ≤ length (content self.old file) }
         ensures written { OnOk result ((f : ℕ) → content self.new f
             ≡ (if nat_eq file f then written at bytes.now (content self.old f) else content self.old f)) }

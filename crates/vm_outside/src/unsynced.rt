@@ -51,7 +51,13 @@ impl Unsynced {
 
     /// The file one call later, which held these bytes before the call and holds the others after it.
     #[tactic(auto, using(crate::proofs::RecordLaws::other_unsynced, crate::proofs::RecordLaws::other_replayed))]
-    pub(crate) fn after(self, alloc: Global, file: u64, call: &DiskCall, held: &mut Vec<u8>) -> Result<Unsynced, AllocError>
+    pub(crate) fn after(
+        self,
+        alloc: Global,
+        file: u64,
+        call: &DiskCall,
+        held: &mut Vec<u8>,
+    ) -> Result<Unsynced, AllocError>
         requires fits { fits call.now ≡ true }
         ensures left { (first : Image) (past : List Call) → replayed first past file ≡ held.old.items
             → unsynced first past file ≡ self → IfOk result (λ left. unsynced first (call.now ∷ past) file ≡ left) }
@@ -63,15 +69,30 @@ impl Unsynced {
         }
         match call {
             DiskCall::Len { file: _ } => Ok(self),
-            DiskCall::Read { file: _, at: _, given: _ } => Ok(self),
-            DiskCall::Write { file: _, at, bytes, done } => self.after_write(*at, bytes.as_slice(), *done, held),
+            DiskCall::Read {
+                file: _,
+                at: _,
+                given: _,
+            } => Ok(self),
+            DiskCall::Write {
+                file: _,
+                at,
+                bytes,
+                done,
+            } => self.after_write(*at, bytes.as_slice(), *done, held),
             DiskCall::Sync { file: _, done } => self.after_sync(alloc, *done, held),
             DiskCall::DropFile { file: _, done } => self.after_drop(alloc, *done, held),
         }
     }
 
     /// The file after a write.
-    fn after_write(self, at: u64, bytes: &[u8], done: bool, held: &mut Vec<u8>) -> Result<Unsynced, AllocError>
+    fn after_write(
+        self,
+        at: u64,
+        bytes: &[u8],
+        done: bool,
+        held: &mut Vec<u8>,
+    ) -> Result<Unsynced, AllocError>
         requires fits { at + length bytes.now ≤ 2 ^ 62 }
         ensures left { IfOk result (λ left. left ≡ after_write at (length bytes.now) self) }
         ensures held { OnOk result (held.new.items ≡ (if done then written at bytes.now held.old.items else held.old.items)) }
@@ -82,7 +103,11 @@ impl Unsynced {
         if at > self.longest {
             return Ok(self);
         }
-        let Unsynced { synced, ranges, longest } = self;
+        let Unsynced {
+            synced,
+            ranges,
+            longest,
+        } = self;
         let mut ranges = ranges.into_vec();
         ranges.insert(0, (at, bytes.len() as u64))?;
         Ok(Unsynced {
@@ -104,7 +129,12 @@ impl Unsynced {
     }
 
     /// The file after it was dropped.
-    fn after_drop(self, alloc: Global, done: bool, held: &mut Vec<u8>) -> Result<Unsynced, AllocError>
+    fn after_drop(
+        self,
+        alloc: Global,
+        done: bool,
+        held: &mut Vec<u8>,
+    ) -> Result<Unsynced, AllocError>
         ensures left { IfOk result (λ left. left ≡ after_drop self) }
         ensures held { OnOk result (held.new.items ≡ (if done then [] else held.old.items)) }
     {

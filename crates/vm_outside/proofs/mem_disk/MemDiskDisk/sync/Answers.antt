@@ -10,7 +10,7 @@ returns-then-begin-clause-time c =
 
 pub returns-in-Ok-clause-durable : goal.returns-in-Ok-clause-durable
 returns-in-Ok-clause-durable c =
-    λ honest. noted_sync_durable (content c.args.self.now.first) (content c.note.new.self.first) c.args.self.now.calls.items c.note.new.self.calls.items c.args.file (content c.args.self.now.files c.args.file) c.note.ensures.keeps.first c.in-Ok.ensures.noted (c.args.self.now.replays c.args.file)
+    noted_sync_durable (content c.args.self.now.first) (content c.note.new.self.first) c.args.self.now.calls.items c.note.new.self.calls.items c.args.file (content c.args.self.now.files c.args.file) c.note.ensures.keeps.first c.in-Ok.ensures.noted (c.args.self.now.replays c.args.file)
 
 pub returns-in-Ok-clause-crash : goal.returns-in-Ok-clause-crash
 returns-in-Ok-clause-crash c =
