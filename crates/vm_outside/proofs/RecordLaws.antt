@@ -1,10 +1,10 @@
 -- A disk in memory, one call after the other.
-use Rattle.std.proofs.Common.{◌≡◌, ◌≢◌, ℕ, ◌+◌, ◌≤◌, ◌<◌, Bool, true, false, ◌⊎◌, inl, inr, ⊎_elim, List, [], ◌∷◌, ◌++◌, length, reverse, take, get_or, refl, sym, ap, ◌∙◌, arith, subst, length-append}
+use Rattle.std.proofs.Common.{◌≡◌, ◌≢◌, ℕ, ◌+◌, ◌<◌, Bool, true, false, ◌⊎◌, inl, inr, ⊎_elim, List, [], ◌∷◌, ◌++◌, length, reverse, take, get_or, refl, sym, ap, ◌∙◌, arith, subst, length-append}
 use Rattle.std.specs.Prelude.{nat_eq, if◌then◌else◌}
 use Rattle.std.proofs.lemmas.Bool.Decides.{nat_tests}
 use Rattle.std.proofs.lemmas.List.{reverse-append, length-reverse, take_more}
-use Rattle.vm_outside.specs.Disk.{Image, Torn, Dropped, Changes, Follows, NoMore, Each, Elapses, Holds, Emptied}
-use Rattle.vm_outside.specs.MemDisk.{file_of, written, replayed, unsynced, remains, remains_since, given}
+use Rattle.vm_outside.specs.Disk.{Image, Torn, Dropped, Follows, NoMore, Elapses}
+use Rattle.vm_outside.specs.MemDisk.{file_of, replayed, unsynced, remains, remains_since}
 use Rattle.vm_outside.specs.Unsynced.{IsLeft, all_synced, after_write, after_drop}
 use Rattle.vm_outside.specs.declared.disk_call.DiskCall.{DiskCall}
 use Rattle.vm_outside.specs.declared.disk_call.DiskCall.TheVariants.{Len, Read, Write, Sync, DropFile}

@@ -1,5 +1,5 @@
 -- What the calls of a disk do to its files, and what a crash may leave of them.
-use Rattle.std.specs.Prelude.{◌≡◌, ◌≢◌, ◌≤◌, ◌<◌, ℕ, ◌+◌, max, Bool, List, [], ◌++◌, length, take, drop, ◌⊎◌, IsTrue}
+use Rattle.std.specs.Prelude.{◌≡◌, ◌≢◌, ◌≤◌, ℕ, ◌+◌, max, Bool, List, [], ◌++◌, length, take, drop, ◌⊎◌, IsTrue}
 
 -- the bytes of each file, by its number: as reads give them, or as a crash may leave them
 abbrev pub Image : Type 0

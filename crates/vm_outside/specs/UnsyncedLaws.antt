@@ -1,5 +1,5 @@
 -- What a crash may leave of a file, one call after the other.
-use Rattle.std.proofs.Common.{◌≡◌, ◌≢◌, ℕ, ◌+◌, ◌-◌, ◌≤◌, ◌<◌, max, min, Bool, true, false, cond, ◌⊎◌, inl, inr, ⊎_elim, List, [], ◌∷◌, ◌++◌, length, take, drop, replicate, length-append, length-drop, refl, sym, ap, ◌∙◌, arith}
+use Rattle.std.proofs.Common.{◌≡◌, ℕ, ◌+◌, ◌-◌, ◌≤◌, ◌<◌, max, min, Bool, true, false, List, [], ◌∷◌, ◌++◌, length, take, drop, replicate, length-append, length-drop, refl, sym, ap, ◌∙◌, arith}
 use Rattle.std.proofs.lemmas.Bool.Decides.{nat_tests}
 use Rattle.std.specs.Prelude.{nat_le, nat_lt, nat_eq, slice_get, if◌then◌else◌}
 use Rattle.std.proofs.Math.ListN.{get_or}
@@ -10,7 +10,7 @@ use Rattle.vm_outside.specs.Unsynced.{IsLeft, is_in, all_synced, after_write, af
 use Rattle.vm_outside.specs.declared.unsynced.Unsynced.{Unsynced}
 use Rattle.vm_outside.specs.declared.disk_call.DiskCall.{DiskCall}
 use Rattle.vm_outside.specs.declared.disk_call.DiskCall.TheVariants.{Len, Read, Write, Sync, DropFile}
-use Rattle.vm_outside.specs.Splices.{splice, splice_length, before_splice, in_splice, after_splice, same_byte, byte_within, byte_same}
+use Rattle.vm_outside.specs.Splices.{splice, splice_length, before_splice, in_splice, after_splice, same_byte, byte_same}
 
 -- A file is as long as its synced bytes, and was written wherever it is longer.
 pub record IsCovered (file : Unsynced) : Type 0 where

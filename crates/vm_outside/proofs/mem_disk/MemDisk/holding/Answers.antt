@@ -1,4 +1,3 @@
-use Rattle.std.proofs.Common.{◌≡◌, ℕ, List, sym, ◌∙◌}
 use Rattle.vm_outside.specs.Files.{content}
 use Rattle.vm_outside.proofs.RecordLaws.{nothing_left, nothing_replayed}
 use Rattle.vm_outside.proofs.mem_disk.MemDisk.holding.Goals as goal

@@ -1,6 +1,6 @@
 use Rattle.std.proofs.Common.{refl, ap, ◌∙◌, inl, true, false}
 use Rattle.vm_outside.specs.declared.disk_call.DiskCall.TheVariants.{DropFile}
-use Rattle.vm_outside.proofs.RecordLaws.{may_elapse, noted_elapses, noted_sync_no_more, noted_sync_durable, may_write, may_drop}
+use Rattle.vm_outside.proofs.RecordLaws.{may_elapse, noted_elapses, may_drop}
 use mathlib.Core.Path.{fun_ext}
 use Rattle.vm_outside.specs.Files.{content}
 use Rattle.vm_outside.proofs.mem_disk.MemDiskDisk.drop_file.Goals as goal

@@ -1,6 +1,5 @@
-use Rattle.std.proofs.Common.{refl, inl, inr}
 use Rattle.vm_outside.specs.declared.disk_call.DiskCall.TheVariants.{Len}
-use Rattle.vm_outside.proofs.RecordLaws.{may_elapse, noted_elapses, noted_sync_no_more, noted_sync_durable, may_write, may_drop}
+use Rattle.vm_outside.proofs.RecordLaws.{may_elapse}
 use Rattle.vm_outside.specs.Files.{content}
 use Rattle.vm_outside.proofs.mem_disk.MemDiskDisk.len.Goals as goal
 
