@@ -7,6 +7,7 @@ mod Exacts
 pub mod NumberReadings
 mod NumberTexts
 mod Orders
+pub mod PrintedSamples
 pub mod PrintedTexts
 mod Products
 mod QuickDigits
