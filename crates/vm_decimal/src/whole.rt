@@ -4,7 +4,7 @@ ghost use Rattle.vm_base.specs.Number.{signed};
 ghost use Rattle.vm_decimal.specs.Arithmetic.{floor_of, ceil_of, ones};
 ghost use Rattle.vm_decimal.specs.Division.{cut as cut_of};
 
-use crate::dec::Dec;
+use crate::dec::{Dec, of_parts};
 use crate::parts::{Parts, without_noughts};
 
 /// The shift of a number whose last digit counts ones.
@@ -52,11 +52,7 @@ fn whole_number(negative: bool, size: u128) -> Dec
         return Dec::ZERO;
     }
     let (size, noughts) = without_noughts(size);
-    Dec {
-        size,
-        shift: ONES + noughts,
-        negative,
-    }
+    of_parts(negative, size, ONES + noughts)
 }
 
 /// The size without its last digits, and one more where the cut goes away from zero and they aren't all
