@@ -4,6 +4,7 @@ pub mod DecForms
 pub mod DecReadings
 mod Divisions
 mod Exacts
+mod Levels
 pub mod NumberReadings
 mod NumberTexts
 mod Orders

@@ -1,4 +1,5 @@
 ghost use Rattle.std.specs.Prelude.{◌≡◌, ◌%◌, ◌<◌, ◌≤◌, ◌^◌, Some, pos, negsuc, ◌+ℤ◌, ◌-ℤ◌, ◌≤ℤ◌, ◌++◌, unsigned_abs, IsTrue, OnOk, OnErr};
+ghost use Rattle.std.specs.Result.{result_ok};
 ghost use Rattle.vm_base.specs.Number.{signed, number};
 ghost use Rattle.vm_base.specs.Sample.{mantissa as mantissa_of, exponent};
 ghost use Rattle.vm_decimal.specs.Dec.{IsDecForm, is_dec, dec_of, in_range, as_sample};
@@ -136,6 +137,17 @@ impl Dec {
     {
         let parts = self.in_parts();
         out.extend_from_slice(number_text(parts.negative, parts.size, parts.shift).as_slice())
+    }
+}
+
+/// The number, or that it is out of range.
+#[inline]
+pub(crate) fn or_range(found: Option<Dec>) -> Result<Dec, Range>
+    ensures { result_ok result ≡ found }
+{
+    match found {
+        Some(found) => Ok(found),
+        None => Err(Range),
     }
 }
 

@@ -5,6 +5,7 @@ ghost use Rattle.vm_decimal.specs.Dec.{IsDecForm};
 ghost use Rattle.vm_decimal.specs.Parts.{whole, value};
 
 use crate::dec::Dec;
+use crate::level::at_one_level;
 use crate::parts::{Parts, Scaled, raised};
 use std::cmp::Ordering;
 
@@ -42,7 +43,10 @@ impl Ord for Dec {
     ghost matches_eq = { Prim.search (comparing, rules) };
 
     fn cmp(&self, other: &Dec) -> Ordering {
-        compare_parts(self.in_parts(), other.in_parts())
+        match at_one_level(*self, *other) {
+            Some(both) => both.one.cmp(&both.two),
+            None => compare_parts(self.in_parts(), other.in_parts()),
+        }
     }
 }
 
