@@ -210,7 +210,8 @@ fn shift_of(e: i16) -> u64
     (e + 1000) as u64
 }
 
-fn with_sign(negative: bool, size: u128) -> i128
+#[inline]
+pub(crate) fn with_sign(negative: bool, size: u128) -> i128
     requires { size < 10 ^ 38 }
     ensures { result ≡ signed negative size }
 {

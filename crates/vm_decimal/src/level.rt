@@ -4,6 +4,7 @@ ghost use Rattle.std.specs.Prelude.{◌≡◌, ℕ, ◌^◌, ◌<◌, ◌≤◌,
 ghost use Rattle.vm_decimal.specs.Parts.{IsLeveled};
 
 use crate::dec::Dec;
+use crate::parts::power_of_ten;
 
 /// The greatest power of ten that a mantissa is raised by.
 const MOST: u64 = 18;
@@ -52,33 +53,4 @@ fn raised(mantissa: i64, gap: u64) -> i128
     ensures { result ≡ mantissa *ℤ pos (10 ^ gap) }
 {
     i128::from(mantissa) * i128::from(power_of_ten(gap))
-}
-
-/// `10^exponent`.
-#[inline]
-fn power_of_ten(exponent: u64) -> i64
-    requires { exponent ≤ 18 }
-    ensures { result ≡ pos (10 ^ exponent) }
-{
-    match exponent {
-        0 => 1,
-        1 => 10,
-        2 => 100,
-        3 => 1_000,
-        4 => 10_000,
-        5 => 100_000,
-        6 => 1_000_000,
-        7 => 10_000_000,
-        8 => 100_000_000,
-        9 => 1_000_000_000,
-        10 => 10_000_000_000,
-        11 => 100_000_000_000,
-        12 => 1_000_000_000_000,
-        13 => 10_000_000_000_000,
-        14 => 100_000_000_000_000,
-        15 => 1_000_000_000_000_000,
-        16 => 10_000_000_000_000_000,
-        17 => 100_000_000_000_000_000,
-        _ => 1_000_000_000_000_000_000,
-    }
 }
