@@ -43,6 +43,42 @@ fn says(rt: &impl Abort, alloc: Global, line: &str, expected: &str) -> Result<()
     Ok(())
 }
 
+/// A long line: a front, so many times a piece, a middle, as many times another one, and a back.
+#[derive(Clone, Copy)]
+struct LongLine<'a> {
+    front: &'a [u8],
+    opening: &'a [u8],
+    count: usize,
+    middle: &'a [u8],
+    closing: &'a [u8],
+    back: &'a [u8],
+}
+
+fn push_times(out: &mut Vec<u8>, piece: &[u8], count: usize) -> Result<(), AllocError> {
+    for _piece in 0..count {
+        out.extend_from_slice(piece)?;
+    }
+    Ok(())
+}
+
+/// Reads a long line and compares what it says.
+fn long_line_says(
+    rt: &impl Abort,
+    alloc: Global,
+    line: &LongLine<'_>,
+    expected: &str,
+) -> Result<(), AllocError> {
+    let mut text = Vec::from_slice(alloc, line.front)?;
+    push_times(&mut text, line.opening, line.count)?;
+    text.extend_from_slice(line.middle)?;
+    push_times(&mut text, line.closing, line.count)?;
+    text.extend_from_slice(line.back)?;
+    let said = words(alloc, &read_line(alloc, &text)?)?;
+    let count = line.count;
+    assert_eq!(rt; said.as_slice(), expected.as_bytes(), "{count} times");
+    Ok(())
+}
+
 #[test]
 fn whole_lines(rt: HostRuntime) -> Result<(), Fail> {
     let rows = [
@@ -73,8 +109,33 @@ fn whole_lines(rt: HostRuntime) -> Result<(), Fail> {
             r#"rows {a="A\n\"\\/é😀😀"} 1 1"#,
         ),
         (
+            r#"{"metric":{"a":"\b\f\r\t\u0000"},"values":[1],"timestamps":[1]}"#,
+            "rows {a=\"\u{8}\u{c}\r\t\0\"} 1 1",
+        ),
+        (
             r#"{"metric":{"a":"1"},"values":[],"timestamps":[]}"#,
             "rows",
+        ),
+        (
+            r#"{"metric":{"a":"1"},"values":[null,"nan","Inf","-INF","+infinity"],"timestamps":[1,2,3,4,5]}"#,
+            "rows",
+        ),
+        (
+            r#"{"x":1,"metric":{"a":"1"},"x":["\ud83d\ude00"],"values":[7],"timestamps":[1],"":{"values":[]}}"#,
+            r#"rows {a="1"} 7 1"#,
+        ),
+        // At the limits of a value, and rounded half to even.
+        (
+            r#"{"metric":{"a":"1"},"values":[1e350,-1E-350,0e400,-0.0],"timestamps":[1,1,1,1]}"#,
+            r#"rows {a="1"} 1e+350 1 {a="1"} -1e-350 1 {a="1"} 0 1 {a="1"} 0 1"#,
+        ),
+        (
+            r#"{"metric":{"a":"1"},"values":[0.1234567890123456785,0.1234567890123456775],"timestamps":[1,2]}"#,
+            r#"rows {a="1"} 0.123456789012345678 1 {a="1"} 0.123456789012345678 2"#,
+        ),
+        (
+            r#"{"metric":{"a":"1"},"values":[999999999999999999.5,100000000000000000000e-2],"timestamps":[1,2]}"#,
+            r#"rows {a="1"} 1000000000000000000 1 {a="1"} 1000000000000000000 2"#,
         ),
     ];
     for (line, expected) in rows {
@@ -181,7 +242,89 @@ fn skipped_lines(rt: HostRuntime) -> Result<(), Fail> {
             r#"{"metric":{"a":"1","\u0061":"2"},"values":[1],"timestamps":[1]}"#,
             "skipped 0",
         ),
+        // A member is missing, stands twice, or is of another kind.
+        (r#"{"values":[1],"timestamps":[1]}"#, "skipped 0"),
+        (r#"{"metric":{"a":"1"},"timestamps":[1]}"#, "skipped 0"),
+        (r#"{"metric":{"a":"1"},"values":[1]}"#, "skipped 0"),
+        (
+            r#"{"metric":{"a":"1"},"metric":{"a":"1"},"values":[1],"timestamps":[1]}"#,
+            "skipped 0",
+        ),
+        (
+            r#"{"metric":{"a":"1"},"timestamps":[1],"values":[1],"timestamps":[1]}"#,
+            "skipped 0",
+        ),
+        (
+            r#"{"metric":null,"values":[1],"timestamps":[1]}"#,
+            "skipped 0",
+        ),
+        (
+            r#"{"metric":{"a":"1"},"values":null,"timestamps":[]}"#,
+            "skipped 0",
+        ),
+        (
+            r#"{"metric":{"a":"1"},"values":[],"timestamps":{}}"#,
+            "skipped 0",
+        ),
+        (
+            r#"{"metric":{"a":null},"values":[1],"timestamps":[1]}"#,
+            "skipped 0",
+        ),
+        (
+            r#"{"metric":{"a":"1"},"values":[1,2],"timestamps":[1]}"#,
+            "skipped 0",
+        ),
+        // A value or a time out of range, or none.
+        (
+            r#"{"metric":{"a":"1"},"values":[1e351],"timestamps":[1]}"#,
+            "skipped 0",
+        ),
+        (
+            r#"{"metric":{"a":"1"},"values":[-1e-351],"timestamps":[1]}"#,
+            "skipped 0",
+        ),
+        (
+            r#"{"metric":{"a":"1"},"values":["inf "],"timestamps":[1]}"#,
+            "skipped 0",
+        ),
+        (
+            r#"{"metric":{"a":"1"},"values":[1],"timestamps":[-1]}"#,
+            "skipped 0",
+        ),
+        (
+            r#"{"metric":{"a":"1"},"values":[1],"timestamps":[null]}"#,
+            "skipped 0",
+        ),
+        (
+            r#"{"metric":{"a":"1"},"values":[1],"timestamps":[99999999999999999999]}"#,
+            "skipped 0",
+        ),
+        // No label set.
+        (
+            r#"{"metric":{"":"1"},"values":[1],"timestamps":[1]}"#,
+            "skipped 0",
+        ),
+        (
+            r#"{"metric":{"a":""},"values":[1],"timestamps":[1]}"#,
+            "skipped 0",
+        ),
         // Half a pair of UTF-16, in a member that counts and in one that doesn't.
+        (
+            r#"{"metric":{"a":"\ud83d\u0041"},"values":[1],"timestamps":[1]}"#,
+            "skipped 0",
+        ),
+        (
+            r#"{"metric":{"a":"\ude00\ud83d"},"values":[1],"timestamps":[1]}"#,
+            "skipped 0",
+        ),
+        (
+            r#"{"metric":{"a":"\ud83d\ud83d\ude00"},"values":[1],"timestamps":[1]}"#,
+            "skipped 0",
+        ),
+        (
+            r#"{"metric":{"a":"\ud83dx"},"values":[1],"timestamps":[1]}"#,
+            "skipped 0",
+        ),
         (
             r#"{"metric":{"a":"\ud800"},"values":[1],"timestamps":[1]}"#,
             "skipped 0",
@@ -199,6 +342,62 @@ fn skipped_lines(rt: HostRuntime) -> Result<(), Fail> {
         says(&rt, rt.alloc(), line, expected)?;
     }
     Ok(())
+}
+
+/// Rest of a line without rows.
+const REST: &[u8] = br#","metric":{"a":"1"},"values":[],"timestamps":[]}"#;
+
+/// Rest of a line whose one label's value, or name, was begun.
+const REST_OF_VALUE: &[u8] = br#""},"values":[],"timestamps":[]}"#;
+const REST_OF_NAME: &[u8] = br#"":"1"},"values":[],"timestamps":[]}"#;
+
+#[test]
+fn long_lines(rt: HostRuntime) -> Result<(), Fail> {
+    let rows: [(LongLine<'_>, &str); 14] = [
+        (deep(b"[", 99, b"", b"]"), "rows"),
+        (deep(b"[", 100, b"", b"]"), "skipped 104"),
+        (deep(br#"{"a":"#, 99, b"1", b"}"), "rows"),
+        (deep(br#"{"a":"#, 100, b"1", b"}"), "skipped 500"),
+        (filled(br#"{"metric":{"a":""#, b"x", 4096, REST_OF_VALUE), "rows"),
+        (filled(br#"{"metric":{"a":""#, b"x", 4097, REST_OF_VALUE), "skipped 0"),
+        (filled(br#"{"metric":{""#, b"n", 256, REST_OF_NAME), "rows"),
+        (filled(br#"{"metric":{""#, b"n", 257, REST_OF_NAME), "skipped 0"),
+        (filled(b"", b" ", 4_194_304, b""), "nothing"),
+        (filled(b"", b" ", 4_194_305, b""), "skipped 4194304"),
+        // UTF-8 that is broken at its first byte, its second and its third.
+        (filled(br#"{"x":""#, b"\xff", 1, b"\""), "skipped 6"),
+        (filled(br#"{"x":""#, b"\xc3", 1, b"\""), "skipped 7"),
+        (filled(br#"{"x":""#, b"\xe2\x82", 1, b"\""), "skipped 8"),
+        (filled(br#"{"x":""#, b"\xed\xa0\x80", 1, b"\""), "skipped 7"),
+    ];
+    for (line, expected) in rows {
+        long_line_says(&rt, rt.alloc(), &line, expected)?;
+    }
+    Ok(())
+}
+
+/// A member that is ignored with so many brackets, in a line without rows.
+fn deep<'a>(opening: &'a [u8], count: usize, middle: &'a [u8], closing: &'a [u8]) -> LongLine<'a> {
+    LongLine {
+        front: br#"{"x":"#,
+        opening,
+        count,
+        middle,
+        closing,
+        back: REST,
+    }
+}
+
+/// So many times a piece between a front and a back.
+fn filled<'a>(front: &'a [u8], piece: &'a [u8], count: usize, back: &'a [u8]) -> LongLine<'a> {
+    LongLine {
+        front,
+        opening: piece,
+        count,
+        middle: b"",
+        closing: b"",
+        back,
+    }
 }
 
 /// Prints the rows of a line again, as one series.
