@@ -136,17 +136,12 @@ first_digits before text front m first count size is within digits value small j
       small = omega arith;
     }
 
-pub more_digits : (before : ℕ) (text rest : List ℕ) (first size second more all : ℕ) → Behind before text size first
-    → rest ≡ take (length text - first) (drop first text) → more ≤ length rest → IsDigits (take more rest)
-    → second ≡ digits_value_after 10 0 (take more rest) → second < 10 ^ more → all ≡ size * 10 ^ more + second
+pub more_digits : (before : ℕ) (text rest : List ℕ) (first size more all : ℕ) → Behind before text size first
+    → rest ≡ take (length text - first) (drop first text) → Behind size rest all more
     → Behind before text all (first + more)
-more_digits before text rest first size second more all b rest_is within digits value small joined =
+more_digits before text rest first size more all b rest_is r =
     let far : rest ≡ drop first text = rest_is ∙ take_rest text first in
-    let next : Behind size (drop first text) all more =
-    first_digits size (drop first text) (drop first text) (length (drop first text)) second more all
-    (sym (take_all (length (drop first text)) (drop first text) (omega arith)))
-    (subst (λ t. more ≤ length t) far within) (subst (λ t. IsDigits (take more t)) far digits)
-    (value ∙ ap (λ t. digits_value_after 10 0 (take more t)) far) small joined in
+    let next : Behind size (drop first text) all more = subst (λ t. Behind size t all more) far r in
     let split : take (first + more) text ≡ take first text ++ take more (drop first text) = take-add first more text in
     let in_text = b.within in
     let in_rest = next.within in

@@ -169,7 +169,7 @@ fn few_digits(text: &[u8]) -> Option<u64>
 
 /// What the digits at the front of a text write behind those of `before`, and how many these are. They are
 /// gathered in 64 bits, 19 at a time.
-#[inline]
+#[inline(always)]
 fn digits_behind(before: u128, text: &[u8]) -> (u128, usize)
     requires room { (before + 1) * 10 ^ length text.now ≤ 10 ^ 38 }
     requires few { length text.now ≤ 38 }
@@ -183,8 +183,22 @@ fn digits_behind(before: u128, text: &[u8]) -> (u128, usize)
     if count < 19 {
         return (size, count);
     }
-    let (second, more) = leading_digits(&text[19..]);
-    (joined(size, second, more), 19 + more)
+    let (all, more) = last_digits(size, &text[19..]);
+    (all, 19 + more)
+}
+
+/// The same of digits that are at most 19, out of the way of the numbers with fewer in all.
+#[inline(never)]
+fn last_digits(before: u128, text: &[u8]) -> (u128, usize)
+    requires room { (before + 1) * 10 ^ length text.now ≤ 10 ^ 38 }
+    requires few { length text.now ≤ 19 }
+    ensures within { result.1 ≤ length text.now }
+    ensures digits { IsDigits (take result.1 text.now) }
+    ensures value { result.0 ≡ digits_value_after 10 before (take result.1 text.now) }
+    ensures small { result.0 < (before + 1) * 10 ^ result.1 }
+{
+    let (digits, count) = leading_digits(text);
+    (joined(before, digits, count), count)
 }
 
 /// A number with so many digits behind it.
@@ -199,6 +213,7 @@ fn joined(before: u128, digits: u64, count: usize) -> u128
 }
 
 /// What the digits at the front of a text write, and how many these are.
+#[inline]
 fn leading_digits(text: &[u8]) -> (u64, usize)
     requires few { length text.now ≤ 19 }
     ensures within { result.1 ≤ length text.now }
