@@ -1,7 +1,7 @@
 -- What is printed of a sample is read as the same sample: no digit of it is rounded.
-use Rattle.std.specs.Prelude.{◌≡◌, ℕ, zero, suc, ◌+◌, ◌-◌, ◌*◌, ◌/◌, ◌%◌, ◌^◌, ◌<◌, ◌≤◌, ◌==◌, ◌&&◌, nat_lt, ℤ, pos, ◌+ℤ◌, ◌-ℤ◌, int_le, unsigned_abs, Bool, true, false, List, codes, length, ◌++◌, Some, None, Ok, if◌then◌else◌}
+use Rattle.std.specs.Prelude.{◌≡◌, ℕ, zero, suc, ◌+◌, ◌-◌, ◌*◌, ◌/◌, ◌%◌, ◌^◌, ◌<◌, ◌≤◌, ◌==◌, ◌&&◌, nat_lt, ℤ, pos, ◌+ℤ◌, ◌-ℤ◌, int_le, Bool, true, false, List, codes, ◌++◌, Some, Ok, if◌then◌else◌}
 use Rattle.std.specs.Fmt.{decimal}
-use Rattle.std.proofs.Common.{refl, ap, sym, subst, ◌∙◌, ⊎_elim, arith, pow-add}
+use Rattle.std.proofs.Common.{refl, ap, sym, ◌∙◌, ⊎_elim, arith}
 use Rattle.std.proofs.Math.Nat.{pow-le-pow_right, le-mul_of_pos_right}
 use Rattle.std.proofs.lemmas.Bool.{cases_eq, cases_lt}
 use Rattle.std.proofs.lemmas.Bool.Decides.{nat_tests}
@@ -21,7 +21,7 @@ use Rattle.vm_decimal.specs.declared.sample_text.SampleText.TheVariants.{Value}
 use Rattle.vm_decimal.proofs.Decs.{noughts_add}
 use Rattle.vm_decimal.proofs.NumberReadings.{number_reading-number}
 use Rattle.vm_decimal.proofs.NumberTexts.{few_digits}
-use Rattle.vm_decimal.proofs.PrintedTexts.{Spells, size_spells, number_of_text, nought_text}
+use Rattle.vm_decimal.proofs.PrintedTexts.{size_spells, number_of_text, nought_text}
 use Rattle.vm_decimal.proofs.Roundings.{surplus-few, surplus-many, nearest-surplus}
 use Rattle.vm_decimal.proofs.SampleDigits.{spelling, bare_of, sample_value-sample_of}
 

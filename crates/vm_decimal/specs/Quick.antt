@@ -16,6 +16,12 @@ pub record BeginsQuick (text : List ℕ) (size places len : ℕ) : Type 0 where
   pub within : len ≤ length text
   pub is : IsQuick (take len text) size places
 
+-- a text with a sign in front of a rest
+pub record IsSignedBy (text : List ℕ) (negative : Bool) (rest : List ℕ) : Type 0 where
+  pub sign : List ℕ
+  pub parts : text ≡ sign ++ rest
+  pub a_sign : IsSign negative sign
+
 -- 1 to 4 digits
 pub record FewDigits (text : List ℕ) (size : ℕ) : Type 0 where
   pub some : 0 < length text

@@ -4,7 +4,7 @@ ghost use Rattle.std.specs.Prelude.{◌≡◌, ◌+◌, ◌*◌, ◌^◌, ◌<�
 ghost use Rattle.std.specs.Str.Parse.{digits_value, digits_value_after};
 ghost use Rattle.vm_base.specs.Number.{signed};
 ghost use Rattle.vm_base.specs.Sample.{sample_of as sample_for};
-ghost use Rattle.vm_decimal.specs.Quick.{BeginsQuick, QuickValue, SpellsQuick, QuickPower, SignedPower, FewDigits};
+ghost use Rattle.vm_decimal.specs.Quick.{IsSignedBy, BeginsQuick, QuickValue, SpellsQuick, QuickPower, SignedPower, FewDigits};
 ghost use Rattle.vm_decimal.specs.SampleText.{number_reading, valued};
 ghost use Rattle.vm_decimal.specs.Spelled.{IsDigits};
 
@@ -66,13 +66,22 @@ fn sample_of(mantissa: i64, exponent: i64) -> Option<Sample>
 pub(crate) fn quick_number(text: &[u8]) -> Option<QuickNumber>
     ensures { IfSome result (λ n. SpellsQuick text.now n) }
 {
+    let (negative, rest) = behind_minus(text);
+    unsigned_number(negative, rest)
+}
+
+/// Whether a `-` stands at the front, and what stands behind it.
+#[inline]
+fn behind_minus(text: &[u8]) -> (bool, &[u8])
+    ensures { IsSignedBy text.now result.0 result.1.now }
+{
     match text {
-        [b'-', rest @ ..] => unsigned_number(true, rest),
-        _ => unsigned_number(false, text),
+        [b'-', rest @ ..] => (true, rest),
+        _ => (false, text),
     }
 }
 
-#[inline]
+#[inline(always)]
 fn unsigned_number(negative: bool, text: &[u8]) -> Option<QuickNumber>
     ensures { IfSome result (λ n. QuickValue negative text.now n) }
 {

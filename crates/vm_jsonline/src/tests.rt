@@ -349,6 +349,7 @@ const REST: &[u8] = br#","metric":{"a":"1"},"values":[],"timestamps":[]}"#;
 
 /// Rest of a line whose one label's value, or name, was begun.
 const REST_OF_VALUE: &[u8] = br#""},"values":[],"timestamps":[]}"#;
+
 const REST_OF_NAME: &[u8] = br#"":"1"},"values":[],"timestamps":[]}"#;
 
 #[test]
@@ -358,10 +359,19 @@ fn long_lines(rt: HostRuntime) -> Result<(), Fail> {
         (deep(b"[", 100, b"", b"]"), "skipped 104"),
         (deep(br#"{"a":"#, 99, b"1", b"}"), "rows"),
         (deep(br#"{"a":"#, 100, b"1", b"}"), "skipped 500"),
-        (filled(br#"{"metric":{"a":""#, b"x", 4096, REST_OF_VALUE), "rows"),
-        (filled(br#"{"metric":{"a":""#, b"x", 4097, REST_OF_VALUE), "skipped 0"),
+        (
+            filled(br#"{"metric":{"a":""#, b"x", 4096, REST_OF_VALUE),
+            "rows",
+        ),
+        (
+            filled(br#"{"metric":{"a":""#, b"x", 4097, REST_OF_VALUE),
+            "skipped 0",
+        ),
         (filled(br#"{"metric":{""#, b"n", 256, REST_OF_NAME), "rows"),
-        (filled(br#"{"metric":{""#, b"n", 257, REST_OF_NAME), "skipped 0"),
+        (
+            filled(br#"{"metric":{""#, b"n", 257, REST_OF_NAME),
+            "skipped 0",
+        ),
         (filled(b"", b" ", 4_194_304, b""), "nothing"),
         (filled(b"", b" ", 4_194_305, b""), "skipped 4194304"),
         // UTF-8 that is broken at its first byte, its second and its third.

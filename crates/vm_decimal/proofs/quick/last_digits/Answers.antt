@@ -1,4 +1,4 @@
-use Rattle.std.proofs.Common.{◌≡◌, ◌+◌, length, take, refl, arith, sym, take_all}
+use Rattle.std.proofs.Common.{◌+◌, length, arith, sym, take_all}
 use Rattle.vm_decimal.proofs.QuickDigits.{Behind, room_less, first_digits}
 use Rattle.vm_decimal.proofs.quick.last_digits.Goals as goal
 

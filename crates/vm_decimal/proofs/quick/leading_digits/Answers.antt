@@ -1,5 +1,5 @@
 -- The digits so far fit, and so does one more.
-use Rattle.std.proofs.Common.{arith, sym, ◌∙◌, ◌+◌, ◌-◌, length, slice_index_or}
+use Rattle.std.proofs.Common.{arith, sym, ◌∙◌, ◌-◌, length, slice_index_or}
 use Rattle.vm_decimal.proofs.QuickDigits.{room_more, small_more, value_more, digits_more, digit_small}
 use Rattle.vm_decimal.proofs.quick.leading_digits.Goals as goal
 
