@@ -1,19 +1,17 @@
 -- A series that is written as a line is read again as its rows.
-use Rattle.std.proofs.Common.{◌≡◌, ℕ, suc, zero, ◌+◌, ◌<◌, ◌^◌, Bool, true, false, cond, List, [], ◌∷◌, ◌++◌, length, map, get_or, Option, Some, None, refl, ap, sym, subst, ◌∙◌, arith, append_assoc, append-nil, lt-ltb}
+use Rattle.std.proofs.Common.{◌≡◌, ℕ, suc, zero, ◌+◌, ◌<◌, ◌^◌, Bool, true, false, cond, List, [], ◌∷◌, ◌++◌, length, map, Option, Some, None, refl, ap, sym, subst, ◌∙◌, arith, append_assoc, lt-ltb}
 use Rattle.std.specs.Prelude.{◌==◌, ◌&&◌, not, nat_lt, IsUtf8, option_map, slice_index, codes, filter, position, Ok, ℤ}
-use Rattle.std.specs.Char.{digit_value, is_ascii_digit}
+use Rattle.std.specs.Char.{is_ascii_digit}
 use Rattle.std.specs.Fmt.{decimal}
-use Rattle.std.specs.Int.{is_in_range}
 use Rattle.std.specs.List.{AllByRecursion, join_with_byte, list_all, prefix_len}
-use Rattle.std.specs.Str.Parse.{AllDigits}
 use Rattle.std.proofs.lemmas.Bool.{and_parts}
 use Rattle.std.proofs.lemmas.Bool.Decides.{nat_tests}
-use Rattle.std.proofs.lemmas.Fmt.{decimal_is_IsNumeral, decimal_digit, first_decimal}
+use Rattle.std.proofs.lemmas.Fmt.{decimal_is_IsNumeral, decimal_digit}
 use Rattle.std.proofs.lemmas.List.{length-map}
 use Rattle.std.proofs.lemmas.Str.{IsUtf8-from_ascii}
 use Rattle.json.specs.Print.{escape}
 use Rattle.vm_base.specs.declared.stamped.Stamped.{Stamped}
-use Rattle.vm_json.specs.Grammar.{is_plain, IsDigits, IsWhole, nought, whole, no_fraction, no_exponent, IsNumber, positive, bytes, Chars, last_quote, plain, Json, number, string, array, object, Jsons, no_json, one_json, Fields, no_field, one_field, no_space, a_number, a_string, an_array, an_object, an_item, Items, no_items, some_items, ItemList, item_list, no_more_items, more_items, Member, a_member, Members, no_members, some_members, MemberList, member_list, no_more_members, more_members, Spells, spells}
+use Rattle.vm_json.specs.Grammar.{is_plain, IsDigits, nought, whole, IsNumber, bytes, Chars, last_quote, plain, Json, number, string, array, object, Jsons, no_json, one_json, Fields, no_field, one_field, no_space, a_number, a_string, an_array, an_object, an_item, Items, no_items, some_items, ItemList, item_list, no_more_items, more_items, Member, a_member, Members, no_members, some_members, MemberList, member_list, no_more_members, more_members, Spells, spells}
 use Rattle.vm_labels.specs.Labels.{IsLabels, has_value, is_badly_named, built, ordered, unless}
 use Rattle.vm_labels.specs.Name.{begins_name, is_name_byte, is_name}
 use Rattle.vm_labels.specs.Text.{pair_json}

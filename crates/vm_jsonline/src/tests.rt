@@ -1,6 +1,7 @@
 //! Lines and what they say. The expected values were worked out by hand from RFC 8259 and from how
 //! VictoriaMetrics exports JSON lines; numbers as they print, rounded to 18 digits by Python's `decimal`.
 
+use crate::line_rows::ROWS;
 use crate::{JsonLine, print_series, read_line};
 use std::alloc::{AllocError, Global};
 use std::process::Abort;
@@ -80,262 +81,26 @@ fn long_line_says(
 }
 
 #[test]
-fn whole_lines(rt: HostRuntime) -> Result<(), Fail> {
-    let rows = [
-        ("", "nothing"),
-        (" \t\r", "nothing"),
-        (
-            r#"{"metric":{"__name__":"m","job":"x"},"values":[1,2.5,null],"timestamps":[10,20,30]}"#,
-            r#"rows {__name__="m",job="x"} 1 10 {__name__="m",job="x"} 2.5 20"#,
-        ),
-        (
-            r#" { "timestamps" : [ 5 ] , "x" : [{}] , "values" : [ -0 ] , "metric" : { "b" : "2" , "a" : "1" } } "#,
-            r#"rows {a="1",b="2"} 0 5"#,
-        ),
-        (
-            r#"{"metric":{"a":"1","b":""},"values":[1E+2,1.50,-1.5e-3],"timestamps":[3,2,1]}"#,
-            r#"rows {a="1"} 100 3 {a="1"} 1.5 2 {a="1"} -0.0015 1"#,
-        ),
-        (
-            r#"{"metric":{"a":"1"},"values":[1234567890123456789012345678901234567890],"timestamps":[0]}"#,
-            r#"rows {a="1"} 1.23456789012345679e+39 0"#,
-        ),
-        (
-            r#"{"metric":{"a":"1"},"values":["NaN",null,"+Inf","-infinity",7],"timestamps":[1,2,3,4,281474976710655]}"#,
-            r#"rows {a="1"} 7 281474976710655"#,
-        ),
-        (
-            r#"{"\u006detric":{"\u0061":"\u0041\n\"\\\/é😀\ud83d\ude00"},"values":[1],"timestamps":[1]}"#,
-            r#"rows {a="A\n\"\\/é😀😀"} 1 1"#,
-        ),
-        (
-            r#"{"metric":{"a":"\b\f\r\t\u0000"},"values":[1],"timestamps":[1]}"#,
-            "rows {a=\"\u{8}\u{c}\r\t\0\"} 1 1",
-        ),
-        (
-            r#"{"metric":{"a":"1"},"values":[],"timestamps":[]}"#,
-            "rows",
-        ),
-        (
-            r#"{"metric":{"a":"1"},"values":[null,"nan","Inf","-INF","+infinity"],"timestamps":[1,2,3,4,5]}"#,
-            "rows",
-        ),
-        (
-            r#"{"x":1,"metric":{"a":"1"},"x":["\ud83d\ude00"],"values":[7],"timestamps":[1],"":{"values":[]}}"#,
-            r#"rows {a="1"} 7 1"#,
-        ),
-        // At the limits of a value, and rounded half to even.
-        (
-            r#"{"metric":{"a":"1"},"values":[1e350,-1E-350,0e400,-0.0],"timestamps":[1,1,1,1]}"#,
-            r#"rows {a="1"} 1e+350 1 {a="1"} -1e-350 1 {a="1"} 0 1 {a="1"} 0 1"#,
-        ),
-        (
-            r#"{"metric":{"a":"1"},"values":[0.1234567890123456785,0.1234567890123456775],"timestamps":[1,2]}"#,
-            r#"rows {a="1"} 0.123456789012345678 1 {a="1"} 0.123456789012345678 2"#,
-        ),
-        (
-            r#"{"metric":{"a":"1"},"values":[999999999999999999.5,100000000000000000000e-2],"timestamps":[1,2]}"#,
-            r#"rows {a="1"} 1000000000000000000 1 {a="1"} 1000000000000000000 2"#,
-        ),
-    ];
-    for (line, expected) in rows {
-        says(&rt, rt.alloc(), line, expected)?;
+fn lines(rt: HostRuntime) -> Result<(), Fail> {
+    let mut count = 0u32;
+    for row in ROWS.lines() {
+        if let Some((expected, line)) = row.split_once(" <- ") {
+            says(&rt, rt.alloc(), line, expected)?;
+            count = count.saturating_add(1);
+        }
     }
+    assert_eq!(rt; count, 64);
     Ok(())
 }
 
 #[test]
-fn skipped_lines(rt: HostRuntime) -> Result<(), Fail> {
+fn white_space_and_control_characters(rt: HostRuntime) -> Result<(), Fail> {
     let rows = [
-        // No JSON.
-        ("nul", "skipped 3"),
+        ("", "nothing"),
+        (" \t\r", "nothing"),
         (
-            r#"{"metric":{"a":"1"},"values":[1,],"timestamps":[1]}"#,
-            "skipped 32",
-        ),
-        (
-            r#"{"metric":{"a":"1"},"values":[01],"timestamps":[1]}"#,
-            "skipped 31",
-        ),
-        (
-            r#"{"metric":{"a":"1"},"values":[1],"timestamps":[1]"#,
-            "skipped 49",
-        ),
-        (
-            r#"{"metric":{"a":"1"},"values":[1],"timestamps":[1]}}"#,
-            "skipped 50",
-        ),
-        (
-            r#"{"metric":{"a":"1"},"values":[NaN],"timestamps":[1]}"#,
-            "skipped 30",
-        ),
-        // JSON, but no series.
-        ("[]", "skipped 0"),
-        ("1", "skipped 0"),
-        ("{}", "skipped 0"),
-        (r#"{"metric":{},"values":[],"timestamps":[]}"#, "skipped 0"),
-        (
-            r#"{"metric":{"a":"1"},"values":[1],"timestamps":[1,2]}"#,
-            "skipped 0",
-        ),
-        (
-            r#"{"metric":{"a":"1"},"values":[1],"timestamps":[1],"values":[1]}"#,
-            "skipped 0",
-        ),
-        (
-            r#"{"metric":{"a":"1"},"values":[1],"timestamps":[1],"v\u0061lues":0}"#,
-            "skipped 0",
-        ),
-        (
-            r#"{"metric":{"a":1},"values":[1],"timestamps":[1]}"#,
-            "skipped 0",
-        ),
-        (
-            r#"{"metric":["a"],"values":[1],"timestamps":[1]}"#,
-            "skipped 0",
-        ),
-        (
-            r#"{"metric":{"a":"1"},"values":{},"timestamps":[]}"#,
-            "skipped 0",
-        ),
-        (
-            r#"{"metric":{"a":"1"},"values":[true],"timestamps":[1]}"#,
-            "skipped 0",
-        ),
-        (
-            r#"{"metric":{"a":"1"},"values":[[1]],"timestamps":[1]}"#,
-            "skipped 0",
-        ),
-        (
-            r#"{"metric":{"a":"1"},"values":["1"],"timestamps":[1]}"#,
-            "skipped 0",
-        ),
-        (
-            r#"{"metric":{"a":"1"},"values":[1e400],"timestamps":[1]}"#,
-            "skipped 0",
-        ),
-        (
-            r#"{"metric":{"a":"1"},"values":[1],"timestamps":[-0]}"#,
-            "skipped 0",
-        ),
-        (
-            r#"{"metric":{"a":"1"},"values":[1],"timestamps":[1.0]}"#,
-            "skipped 0",
-        ),
-        (
-            r#"{"metric":{"a":"1"},"values":[1],"timestamps":[1e3]}"#,
-            "skipped 0",
-        ),
-        (
-            r#"{"metric":{"a":"1"},"values":[1],"timestamps":["1"]}"#,
-            "skipped 0",
-        ),
-        (
-            r#"{"metric":{"a":"1"},"values":[1],"timestamps":[281474976710656]}"#,
-            "skipped 0",
-        ),
-        (
-            r#"{"metric":{"a-b":"1"},"values":[1],"timestamps":[1]}"#,
-            "skipped 0",
-        ),
-        (
-            r#"{"metric":{"a":"1","\u0061":"2"},"values":[1],"timestamps":[1]}"#,
-            "skipped 0",
-        ),
-        // A member is missing, stands twice, or is of another kind.
-        (r#"{"values":[1],"timestamps":[1]}"#, "skipped 0"),
-        (r#"{"metric":{"a":"1"},"timestamps":[1]}"#, "skipped 0"),
-        (r#"{"metric":{"a":"1"},"values":[1]}"#, "skipped 0"),
-        (
-            r#"{"metric":{"a":"1"},"metric":{"a":"1"},"values":[1],"timestamps":[1]}"#,
-            "skipped 0",
-        ),
-        (
-            r#"{"metric":{"a":"1"},"timestamps":[1],"values":[1],"timestamps":[1]}"#,
-            "skipped 0",
-        ),
-        (
-            r#"{"metric":null,"values":[1],"timestamps":[1]}"#,
-            "skipped 0",
-        ),
-        (
-            r#"{"metric":{"a":"1"},"values":null,"timestamps":[]}"#,
-            "skipped 0",
-        ),
-        (
-            r#"{"metric":{"a":"1"},"values":[],"timestamps":{}}"#,
-            "skipped 0",
-        ),
-        (
-            r#"{"metric":{"a":null},"values":[1],"timestamps":[1]}"#,
-            "skipped 0",
-        ),
-        (
-            r#"{"metric":{"a":"1"},"values":[1,2],"timestamps":[1]}"#,
-            "skipped 0",
-        ),
-        // A value or a time out of range, or none.
-        (
-            r#"{"metric":{"a":"1"},"values":[1e351],"timestamps":[1]}"#,
-            "skipped 0",
-        ),
-        (
-            r#"{"metric":{"a":"1"},"values":[-1e-351],"timestamps":[1]}"#,
-            "skipped 0",
-        ),
-        (
-            r#"{"metric":{"a":"1"},"values":["inf "],"timestamps":[1]}"#,
-            "skipped 0",
-        ),
-        (
-            r#"{"metric":{"a":"1"},"values":[1],"timestamps":[-1]}"#,
-            "skipped 0",
-        ),
-        (
-            r#"{"metric":{"a":"1"},"values":[1],"timestamps":[null]}"#,
-            "skipped 0",
-        ),
-        (
-            r#"{"metric":{"a":"1"},"values":[1],"timestamps":[99999999999999999999]}"#,
-            "skipped 0",
-        ),
-        // No label set.
-        (
-            r#"{"metric":{"":"1"},"values":[1],"timestamps":[1]}"#,
-            "skipped 0",
-        ),
-        (
-            r#"{"metric":{"a":""},"values":[1],"timestamps":[1]}"#,
-            "skipped 0",
-        ),
-        // Half a pair of UTF-16, in a member that counts and in one that doesn't.
-        (
-            r#"{"metric":{"a":"\ud83d\u0041"},"values":[1],"timestamps":[1]}"#,
-            "skipped 0",
-        ),
-        (
-            r#"{"metric":{"a":"\ude00\ud83d"},"values":[1],"timestamps":[1]}"#,
-            "skipped 0",
-        ),
-        (
-            r#"{"metric":{"a":"\ud83d\ud83d\ude00"},"values":[1],"timestamps":[1]}"#,
-            "skipped 0",
-        ),
-        (
-            r#"{"metric":{"a":"\ud83dx"},"values":[1],"timestamps":[1]}"#,
-            "skipped 0",
-        ),
-        (
-            r#"{"metric":{"a":"\ud800"},"values":[1],"timestamps":[1]}"#,
-            "skipped 0",
-        ),
-        (
-            r#"{"metric":{"a":"1"},"values":[1],"timestamps":[1],"x":["\ud800","\udc00"]}"#,
-            "skipped 0",
-        ),
-        (
-            r#"{"metric":{"a":"1"},"values":[1],"timestamps":[1],"\udc00\ud800":0}"#,
-            "skipped 0",
+            r#"{"metric":{"a":"\b\f\r\t\u0000"},"values":[1],"timestamps":[1]}"#,
+            "rows {a=\"\u{8}\u{c}\r\t\0\"} 1 1",
         ),
     ];
     for (line, expected) in rows {
@@ -354,7 +119,7 @@ const REST_OF_NAME: &[u8] = br#"":"1"},"values":[],"timestamps":[]}"#;
 
 #[test]
 fn long_lines(rt: HostRuntime) -> Result<(), Fail> {
-    let rows: [(LongLine<'_>, &str); 14] = [
+    let rows: [(LongLine<'_>, &str); 13] = [
         (deep(b"[", 99, b"", b"]"), "rows"),
         (deep(b"[", 100, b"", b"]"), "skipped 104"),
         (deep(br#"{"a":"#, 99, b"1", b"}"), "rows"),
@@ -372,8 +137,15 @@ fn long_lines(rt: HostRuntime) -> Result<(), Fail> {
             filled(br#"{"metric":{""#, b"n", 257, REST_OF_NAME),
             "skipped 0",
         ),
-        (filled(b"", b" ", 4_194_304, b""), "nothing"),
-        (filled(b"", b" ", 4_194_305, b""), "skipped 4194304"),
+        (
+            filled(
+                b" ",
+                b"                                                                ",
+                65_536,
+                b"",
+            ),
+            "skipped 4194304",
+        ),
         // UTF-8 that is broken at its first byte, its second and its third.
         (filled(br#"{"x":""#, b"\xff", 1, b"\""), "skipped 6"),
         (filled(br#"{"x":""#, b"\xc3", 1, b"\""), "skipped 7"),
