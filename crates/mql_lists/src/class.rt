@@ -1,9 +1,10 @@
 //! What a word is to the language.
 
-ghost use Rattle.std.specs.Prelude.{◌≡◌, ◌≤◌, ◌+◌, length, bytes_eq};
+ghost use Rattle.std.specs.Prelude.{◌≡◌, ◌≤◌, ◌+◌, length, map, unwrap_or};
 ghost use Rattle.std.specs.Str.{str_eq_ignore_ascii_case};
 ghost use Rattle.mql_lists.specs.Words.{word_of};
-ghost use Rattle.mql_lists.specs.Classes.{class_of_word, class_of_name as named_class, class_of_mark as mark_class, filter_op as op_of, level_of as level};
+ghost use Rattle.mql_lists.specs.Classes.{class_of_word, class_in, class_of_name as named_class, class_of_mark as mark_class, filter_op as op_of, level_of as level};
+ghost use Rattle.mql_lists.specs.declared.class.Class.{Class as ClassOf};
 
 use mql_lex::{Many, MatchKind, Op, Token, TokenKind};
 use vm_labels::FilterOp;
@@ -100,12 +101,23 @@ pub fn class_of(text: &str, token: Token) -> Class
 fn class_of_name(name: &[u8]) -> Class
     ensures { result ≡ named_class name.now }
 {
-    for (word, class) in &RESERVED {
+    match reserved_class(name, &RESERVED) {
+        Some(class) => class,
+        None => Class::Identifier,
+    }
+}
+
+/// The class of the row whose word a name is, without regard to ASCII case.
+fn reserved_class(name: &[u8], rows: &[(&str, Class)]) -> Option<Class>
+    ensures { (other : ClassOf) → unwrap_or result other
+        ≡ class_in (map (λ row. (row.0.now, row.1)) rows.now) (str_eq_ignore_ascii_case name.now) other }
+{
+    for (word, class) in rows {
         if name.eq_ignore_ascii_case(word.as_bytes()) {
-            return *class;
+            return Some(*class);
         }
     }
-    Class::Identifier
+    None
 }
 
 #[tactic(auto, unfolding(crate::specs::Classes::class_of_mark))]
