@@ -6,9 +6,9 @@
 use Rattle.std.specs.Prelude.{◌≡◌, ℕ, List, [], ◌∷◌, Some}
 use Rattle.mql_lex.specs.declared.token.TokenKind.TheVariants.{Name}
 use Rattle.mql_lex.specs.declared.operator.Op.TheVariants.{Or}
-use Rattle.mql_expr.specs.declared.TheTypes.Item.{Item}
-use Rattle.mql_expr.specs.declared.TheTypes.Item.TheVariants.{Is, Named}
-use Rattle.mql_expr.specs.declared.TheTypes.Param.{Param}
+use Rattle.mql_expr.specs.declared.item.Item.{Item}
+use Rattle.mql_expr.specs.declared.item.Item.TheVariants.{Is, Named}
+use Rattle.mql_expr.specs.declared.expr.Param.{Param}
 use Rattle.vm_labels.specs.declared.selector.FilterOp.{FilterOp}
 use Rattle.mql_lists.specs.Words.{Word}
 use Rattle.mql_lists.specs.Classes.{class_of_word, filter_op}

@@ -3,9 +3,9 @@
 use Rattle.std.specs.Prelude.{ℕ, Bool, true, false, List, [], ◌∷◌, ◌++◌, Option, Some, None, option_map}
 use Rattle.mql_lex.specs.declared.operator.Op.{Op}
 use Rattle.mql_lex.specs.declared.operator.Op.TheVariants.{Default, If, IfNot, Or, And, Unless, Differs}
-use Rattle.mql_expr.specs.declared.TheTypes.Item.{Item}
-use Rattle.mql_expr.specs.declared.TheTypes.Item.TheVariants.{Is, Named}
-use Rattle.mql_expr.specs.declared.TheTypes.Param.{Param}
+use Rattle.mql_expr.specs.declared.item.Item.{Item}
+use Rattle.mql_expr.specs.declared.item.Item.TheVariants.{Is, Named}
+use Rattle.mql_expr.specs.declared.expr.Param.{Param}
 use Rattle.vm_labels.specs.declared.selector.FilterOp.{FilterOp}
 use Rattle.vm_labels.specs.declared.selector.FilterOp.TheVariants.{Equal, Differs as DiffersFrom, Matches, MatchesNot}
 use Rattle.mql_lists.specs.Words.{Word}
