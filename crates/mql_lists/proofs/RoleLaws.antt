@@ -1,5 +1,5 @@
 -- What a word is to the machines, and what it is to the grammar.
-use Rattle.std.specs.Prelude.{◌≡◌, ℕ, not, Bool, true, false, cond, List, [], ◌∷◌, Option, Some, None, bytes_eq}
+use Rattle.std.specs.Prelude.{◌≡◌, ℕ, not, Bool, true, false, cond, List, [], ◌∷◌, Option, Some, None, bytes_eq, codes}
 use Rattle.std.specs.List.{list_all}
 use Rattle.std.specs.Str.{str_eq_ignore_ascii_case}
 use Rattle.std.proofs.Common.{refl, ap, sym, subst, ◌∙◌}
@@ -9,6 +9,7 @@ use Rattle.mql_lex.specs.declared.token.TokenKind.TheVariants.{Name, Number, Dur
 use Rattle.mql_lex.specs.declared.operator.Op.{Op}
 use Rattle.mql_lex.specs.declared.operator.Op.TheVariants.{Or, Differs}
 use Rattle.vm_labels.specs.declared.selector.FilterOp.{FilterOp}
+use Rattle.vm_labels.specs.declared.selector.FilterOp.TheVariants.{Equal}
 use Rattle.mql_lists.specs.Words.{Word}
 use Rattle.mql_lists.specs.Classes.{class_in, class_of_kind, class_of_name, class_of_mark, class_of_word, filter_op, mark_words, reserved_words}
 use Rattle.mql_lists.specs.Grammar.{IsA, IsLabel, Compares}
@@ -170,3 +171,43 @@ kind_value _ text is = absurd (cc is)
 pub value_kind : (w : Word) → word_role w ≡ Value → w.kind ≡ Str
 unfolding word_role
 value_kind w is = kind_value w.kind w.text is
+
+-- ---- words that end what was begun
+
+abbrev pub answer : {A B : Type 0} → A → B → Option (A × B)
+answer a b = Some (a, b)
+
+pub same_parts : {A B : Type 0} (a b : A) (c d : B) → answer a c ≡ answer b d → (a ≡ b) × (c ≡ d)
+same_parts {A} {B} a b c d is =
+    let first : Option (A × B) → A = λ o. elim o [ None ↦ a | Some p ↦ p.0 ] in
+    let second : Option (A × B) → B = λ o. elim o [ None ↦ c | Some p ↦ p.1 ] in
+    (ap first is, ap second is)
+
+abbrev pub mark_at : List ℕ → ℕ → Word
+mark_at text at = record { kind = Mark; text = text; at = at }
+
+abbrev pub string_at : ℕ → Word
+string_at at = record { kind = Str; text = codes "\"\""; at = at }
+
+abbrev pub name_at : ℕ → Word
+name_at at = record { kind = Name; text = codes "a"; at = at }
+
+pub round_mark : (at : ℕ) → word_role (mark_at (codes ")") at) ≡ EndRound
+unfolding word_role class_of_mark
+round_mark at = refl
+
+pub curly_mark : (at : ℕ) → word_role (mark_at (codes "}") at) ≡ EndCurly
+unfolding word_role class_of_mark
+curly_mark at = refl
+
+pub equals_mark : (at : ℕ) → word_role (mark_at (codes "=") at) ≡ Compare Equal
+unfolding word_role class_of_mark
+equals_mark at = refl
+
+pub string_word : (at : ℕ) → word_role (string_at at) ≡ Value
+unfolding word_role
+string_word at = refl
+
+pub name_word : (at : ℕ) → word_role (name_at at) ≡ Free
+unfolding word_role class_of_name
+name_word at = refl

@@ -1,0 +1,9 @@
+//! That the readers read the grammar and nothing else.
+
+ghost use Rattle.mql_lists.specs.Laws.{NamesAreRead, ParamsAreRead, BracesAreRead};
+
+/// Names in parentheses are read as the grammar says, and nothing else is read.
+pub fn names_are_read()
+    ensures { NamesAreRead }
+{
+}
