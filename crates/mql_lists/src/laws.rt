@@ -7,3 +7,9 @@ pub fn names_are_read()
     ensures { NamesAreRead }
 {
 }
+
+/// Parameters of a template are read as the grammar says, and nothing else is read.
+pub fn params_are_read()
+    ensures { ParamsAreRead }
+{
+}
