@@ -1,4 +1,5 @@
 pub mod BraceLaws
+mod BraceReads
 pub mod NameLaws
 pub mod ParamLaws
 pub mod RoleLaws

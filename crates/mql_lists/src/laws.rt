@@ -13,3 +13,9 @@ pub fn params_are_read()
     ensures { ParamsAreRead }
 {
 }
+
+/// What stands in braces is read as the grammar says, and nothing else is read.
+pub fn braces_are_read()
+    ensures { BracesAreRead }
+{
+}
