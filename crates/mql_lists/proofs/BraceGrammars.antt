@@ -1,13 +1,12 @@
 -- What is read of braces the grammar says.
-use Rattle.std.specs.Prelude.{◌≡◌, ℕ, Bool, true, false, cond, List, [], ◌∷◌, ◌++◌, Option, Some, None}
+use Rattle.std.specs.Prelude.{◌≡◌, ℕ, Bool, true, false, cond, List, [], ◌∷◌, ◌++◌, Some, None}
 use Rattle.std.proofs.Common.{refl, ap, sym, subst, ◌∙◌, append-nil, append_assoc}
 use Rattle.mql_lex.specs.declared.operator.Op.TheVariants.{Or}
 use Rattle.mql_expr.specs.declared.item.Item.{Item}
-use Rattle.mql_expr.specs.declared.item.Item.TheVariants.{Is, Named}
-use Rattle.vm_labels.specs.declared.selector.FilterOp.{FilterOp}
+use Rattle.mql_expr.specs.declared.item.Item.TheVariants.{Named}
 use Rattle.mql_lists.specs.Words.{Word}
-use Rattle.mql_lists.specs.Grammar.{IsA, IsLabel, Compares, OneItem, a_filter, a_name, OneList, last_item, last_comma, next_item, SomeLists, last_list, next_list, Braces, no_items, some_lists}
-use Rattle.mql_lists.specs.Machines.{Turn, word_role, is_label, is_free, begins_item, at_first, behind_item, behind_name, behind_sign, after_comma, after_or, braces_at, with_item, with_list, named_item, filter_item, braces_start, braces_step}
+use Rattle.mql_lists.specs.Grammar.{IsA, IsLabel, Compares, OneItem, a_filter, a_name, last_item, last_comma, next_item, SomeLists, last_list, next_list, Braces, no_items, some_lists}
+use Rattle.mql_lists.specs.Machines.{Turn, word_role, is_free, begins_item, at_first, behind_item, behind_name, behind_sign, after_comma, after_or, braces_at, with_item, with_list, named_item, filter_item, braces_start, braces_step}
 use Rattle.mql_lists.specs.Progress.{behind_step, leads}
 use Rattle.mql_lists.specs.Values.{value_of}
 use Rattle.mql_lists.specs.declared.class.Class.TheVariants.{Identifier, Operator, Comma, CloseCurly}

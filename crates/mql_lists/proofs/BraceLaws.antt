@@ -1,5 +1,5 @@
 -- The machine that reads braces reads what the grammar says, and nothing else.
-use Rattle.std.specs.Prelude.{◌≡◌, ℕ, true, List, [], ◌∷◌, ◌++◌, Some, codes}
+use Rattle.std.specs.Prelude.{ℕ, true, List, [], ◌∷◌, ◌++◌, codes}
 use Rattle.std.proofs.Common.{refl}
 use Rattle.mql_expr.specs.declared.item.Item.{Item}
 use Rattle.vm_labels.specs.declared.selector.FilterOp.TheVariants.{Equal}
