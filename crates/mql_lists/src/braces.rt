@@ -4,7 +4,13 @@ ghost use Rattle.std.specs.Prelude.{◌≡◌, [], ◌∷◌, ◌++◌, IfOk};
 ghost use Rattle.mql_lex.specs.Tokens.{StandsIn, slice_of};
 ghost use Rattle.mql_lists.specs.Words.{word_of};
 ghost use Rattle.mql_lists.specs.Values.{value_of};
-ghost use Rattle.mql_lists.specs.Machines.{braces_start, braces_step, word_role, goes as goes_on, done as ended, with_item as one_more, with_list as list_more, named_item, filter_item, begins_item as item_begun, at_first as first_turn, behind_item as item_turn, behind_name as name_turn, behind_sign as sign_turn, after_comma as comma_turn, after_or as or_turn};
+ghost use Rattle.mql_lists.specs.Machines.{braces_start, braces_step, word_role};
+ghost use Rattle.mql_lists.specs.Machines.{goes as goes_on, done as ended, with_item as one_more};
+ghost use Rattle.mql_lists.specs.Machines.{with_list as list_more, named_item, filter_item};
+ghost use Rattle.mql_lists.specs.Machines.{begins_item as item_begun, at_first as first_turn};
+ghost use Rattle.mql_lists.specs.Machines.{behind_item as item_turn, behind_name as name_turn};
+ghost use Rattle.mql_lists.specs.Machines.{behind_sign as sign_turn, after_comma as comma_turn};
+ghost use Rattle.mql_lists.specs.Machines.{after_or as or_turn};
 
 use crate::progress::Progress;
 use crate::role::{Role, role_of_token};
@@ -146,7 +152,8 @@ fn with_list(alloc: Global, found: Gathered) -> Result<Gathered, AllocError>
 /// Takes a name at the beginning of an item.
 fn begins_item(alloc: Global, found: Gathered, text: &str, token: Token) -> Result<Turn, AllocError>
     requires { StandsIn text.now token }
-    ensures { IfOk result (λ turn. turn ≡ item_begun found (word_of text.now token) (word_role (word_of text.now token))) }
+    ensures { let word = word_of text.now token in
+        IfOk result (λ turn. turn ≡ item_begun found word (word_role word)) }
 {
     let role = role_of_token(text, token);
     if !role.is_label() {
@@ -162,7 +169,8 @@ fn begins_item(alloc: Global, found: Gathered, text: &str, token: Token) -> Resu
 
 fn at_first(alloc: Global, found: Gathered, text: &str, token: Token) -> Result<Turn, AllocError>
     requires { StandsIn text.now token }
-    ensures { IfOk result (λ turn. turn ≡ first_turn found (word_of text.now token) (word_role (word_of text.now token))) }
+    ensures { let word = word_of text.now token in
+        IfOk result (λ turn. turn ≡ first_turn found word (word_role word)) }
 {
     match role_of_token(text, token) {
         Role::EndCurly => done(found),
@@ -211,7 +219,8 @@ fn behind_sign(
     token: Token,
 ) -> Result<Turn, AllocError>
     requires { StandsIn text.now token }
-    ensures { IfOk result (λ turn. turn ≡ sign_turn found begun (word_of text.now token) (word_role (word_of text.now token))) }
+    ensures { let word = word_of text.now token in
+        IfOk result (λ turn. turn ≡ sign_turn found begun word (word_role word)) }
 {
     match role_of_token(text, token) {
         Role::Value => {
@@ -227,7 +236,8 @@ fn behind_sign(
 /// Behind a comma, where `or` may be a name or part two lists.
 fn after_comma(alloc: Global, found: Gathered, text: &str, token: Token) -> Result<Turn, AllocError>
     requires { StandsIn text.now token }
-    ensures { IfOk result (λ turn. turn ≡ comma_turn found (word_of text.now token) (word_role (word_of text.now token))) }
+    ensures { let word = word_of text.now token in
+        IfOk result (λ turn. turn ≡ comma_turn found word (word_role word)) }
 {
     match role_of_token(text, token) {
         Role::Either => {
@@ -248,7 +258,8 @@ fn after_or(
     token: Token,
 ) -> Result<Turn, AllocError>
     requires { StandsIn text.now token }
-    ensures { IfOk result (λ turn. turn ≡ or_turn found name (word_of text.now token) (word_role (word_of text.now token))) }
+    ensures { let word = word_of text.now token in
+        IfOk result (λ turn. turn ≡ or_turn found name word (word_role word)) }
 {
     match role_of_token(text, token) {
         Role::Compare(op) => Ok(goes(found, Place::AtSign(Begun { name, op }))),
