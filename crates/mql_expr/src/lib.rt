@@ -9,7 +9,9 @@
 mod build;
 mod expr;
 mod item;
+mod names;
 
 pub use build::{Called, Joint};
 pub use expr::{Expr, Node, Param, Template};
 pub use item::Item;
+pub use names::{Aggregate, Function, Known, Rollup};
