@@ -1,2 +1,5 @@
+pub mod Canonical
+pub mod Levels
 pub mod Names
+pub mod Spans
 pub mod Tree

@@ -10,6 +10,8 @@ mod build;
 mod expr;
 mod item;
 mod names;
+mod print_parts;
+mod span_text;
 
 pub use build::{Called, Joint};
 pub use expr::{Expr, Node, Param, Template};
