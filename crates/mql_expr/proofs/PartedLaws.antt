@@ -1,11 +1,22 @@
 -- The text of things that are parted by something.
-use Rattle.std.proofs.Common.{◌≡◌, ℕ, zero, suc, ◌<◌, ◌≤◌, ◌-◌, List, [], ◌∷◌, ◌++◌, length, take, drop, get_or, map, codes, refl, sym, ap, ◌∙◌, append_assoc, append-nil, arith}
+use Rattle.std.proofs.Common.{◌≡◌, ℕ, zero, suc, ◌+◌, ◌<◌, ◌≤◌, ◌-◌, ◌==◌, eqb, false, if◌then◌else◌, List, [], ◌∷◌, ◌++◌, length, take, drop, get_or, map, codes, refl, sym, ap, ◌∙◌, append_assoc, append-nil, rules, arith}
 use Rattle.std.specs.Prelude.{flat_map}
 use Rattle.std.proofs.lemmas.Grind.{flat_map-append}
-use Rattle.std.proofs.lemmas.List.{take_rest}
-use Rattle.mql_expr.specs.Canonical.{Piece, blank, mark, piece_text, text_of, parted, named, parted_names, names_pieces, item_pieces, list_pieces, braces_pieces, params_pieces}
+use Rattle.std.proofs.lemmas.List.{take_rest, take_all, take_more, map_push, length-take, length-map}
+use Rattle.std.proofs.lemmas.Bool.Decides.{nat_tests}
+use Rattle.mql_expr.specs.Canonical.{Piece, blank, mark, piece_text, text_of, parted, named, parted_names, names_pieces, item_pieces, list_pieces, braces_pieces, params_pieces, comma_before, in_parentheses, placed, arguments, binding, bindings}
+use Rattle.mql_expr.specs.Tree.{tree, trees_in, template, templates_in}
+use Rattle.mql_expr.specs.declared.expr.Expr.{Expr, the_lemmas}
 use Rattle.mql_expr.specs.declared.expr.Param.{Param}
+use Rattle.mql_expr.specs.declared.expr.Template.{Template}
 use Rattle.mql_expr.specs.declared.item.Item.{Item}
+
+-- what stands between arguments, and between templates
+abbrev pub comma : List Piece
+comma = mark (codes ",") ∷ blank ∷ []
+
+suc_apart : (n : ℕ) → (suc n == 0) ≡ false
+suc_apart n = grind (arith, nat_tests)
 
 pub text_of-append : (a b : List Piece) → text_of (a ++ b) ≡ text_of a ++ text_of b
 text_of-append a b = flat_map-append piece_text a b
@@ -65,3 +76,59 @@ pub put_four : (old one two three four a b c d whole : List ℕ) → one ≡ old
 put_four old one two three four a b c d whole p q r s w =
     let same : (((old ++ a) ++ b) ++ c) ++ d ≡ old ++ (a ++ ((b ++ c) ++ d)) = simp append_assoc in
     s ∙ ap (λ t. t ++ d) (r ∙ ap (λ t. t ++ c) (q ∙ ap (λ t. t ++ b) p)) ∙ same ∙ ap (λ t. old ++ t) (sym w)
+
+-- one more, which stands behind a comma where it isn't the first
+pub parted_push : (between : List Piece) (xs : List (List Piece)) (y : List Piece)
+    → text_of (parted between (xs ++ y ∷ [])) ≡ text_of (parted between xs) ++ ((if length xs == 0 then [] else text_of between) ++ text_of y)
+parted_push between [] y = text_of-append y [] ∙ append-nil (text_of y)
+parted_push between (x ∷ xs) y =
+    let more = flat_map (λ z. between ++ z) xs in
+    ap (λ t. text_of (x ++ t)) (flat_map-append (λ z. between ++ z) xs (y ∷ []))
+    ∙ ap text_of (sym (append_assoc x more ((between ++ y) ++ [])))
+    ∙ text_of-append (x ++ more) ((between ++ y) ++ [])
+    ∙ ap (λ t. text_of (x ++ more) ++ text_of t) (append-nil (between ++ y))
+    ∙ ap (λ t. text_of (x ++ more) ++ t) (text_of-append between y)
+    ∙ ap (λ b. text_of (x ++ more) ++ ((if b then [] else text_of between) ++ text_of y)) (sym (suc_apart (length xs)))
+
+pub parted_more : {X : Type 0} (f : X → List Piece) (xs : List X) (i : ℕ) (x : X) → i < length xs → x ≡ get_or xs i x
+    → text_of (parted comma (map f (take (i + 1) xs))) ≡ text_of (parted comma (map f (take i xs))) ++ (comma_before i ++ text_of (f x))
+parted_more f xs i x low is =
+    let len : length (map f (take i xs)) ≡ i = omega (arith, length-map (take i xs) f, length-take i xs) in
+    ap (λ ys. text_of (parted comma (map f ys))) (take_more xs i x low ∙ ap (λ z. take i xs ++ z ∷ []) (sym is))
+    ∙ ap (λ ys. text_of (parted comma ys)) (map_push f (take i xs) x)
+    ∙ parted_push comma (map f (take i xs)) (f x)
+    ∙ ap (λ k. text_of (parted comma (map f (take i xs))) ++ (comma_before k ++ text_of (f x))) len
+
+-- the text of arguments or templates so far grows by one
+pub text_more : {X : Type 0} (f : X → List Piece) (old one two three : List ℕ) (xs : List X) (i : ℕ) (x : X) → i < length xs → x ≡ get_or xs i x
+    → one ≡ old ++ 40 ∷ text_of (parted comma (map f (take i xs))) → two ≡ one ++ comma_before i → three ≡ two ++ text_of (f x)
+    → three ≡ old ++ 40 ∷ text_of (parted comma (map f (take (i + 1) xs)))
+text_more f old one two three xs i x low is so_far before put =
+    let done = text_of (parted comma (map f (take i xs))) in
+    let same : ((old ++ 40 ∷ done) ++ comma_before i) ++ text_of (f x) ≡ old ++ 40 ∷ (done ++ (comma_before i ++ text_of (f x))) = simp append_assoc in
+    put ∙ ap (λ t. t ++ text_of (f x)) (before ∙ ap (λ t. t ++ comma_before i) so_far) ∙ same
+    ∙ ap (λ t. old ++ 40 ∷ t) (sym (parted_more f xs i x low is))
+
+pub arguments_of : (args : List Expr) → arguments (trees_in args) ≡ map (λ e. placed 1 (tree e)) args
+arguments_of [] = refl
+arguments_of (e ∷ es) = ap (λ ps. placed 1 (tree e) ∷ ps) (arguments_of es)
+
+template_is : (t : Template) → template t ≡ record { at = t.at; name = t.name; params = t.params; body = tree t.body }
+template_is t = search (rules, the_lemmas)
+
+abbrev pub binding_of : Template → List Piece
+binding_of t = binding t.name t.params (placed 1 (tree t.body))
+
+pub bindings_of : (ts : List Template) → bindings (templates_in ts) ≡ map binding_of ts
+bindings_of [] = refl
+bindings_of (t ∷ ts) =
+    ap (λ u. binding u.name u.params (placed 1 u.body) ∷ bindings (templates_in ts)) (template_is t) ∙ ap (λ ps. binding_of t ∷ ps) (bindings_of ts)
+
+-- all of them, and the parenthesis behind them
+pub inside_text : {X : Type 0} (f : X → List Piece) (old one two : List ℕ) (xs : List X) (i : ℕ) (parts : List (List Piece)) → length xs ≤ i → parts ≡ map f xs
+    → one ≡ old ++ 40 ∷ text_of (parted comma (map f (take i xs))) → two ≡ one ++ 41 ∷ [] → two ≡ old ++ text_of (in_parentheses parts)
+inside_text f old one two xs i parts low same so_far put =
+    let whole : one ≡ old ++ 40 ∷ text_of (parted comma parts) =
+    so_far ∙ ap (λ ys. old ++ 40 ∷ text_of (parted comma (map f ys))) (take_all i xs low) ∙ ap (λ ps. old ++ 40 ∷ text_of (parted comma ps)) (sym same) in
+    put ∙ ap (λ t. t ++ 41 ∷ []) whole ∙ append_assoc old (40 ∷ text_of (parted comma parts)) (41 ∷ [])
+    ∙ ap (λ t. old ++ t) (sym (wrapped_text 40 (parted comma parts) 41))

@@ -180,10 +180,24 @@ params_pieces (param ∷ params) =
     mark (codes "(") ∷ parted (mark (codes ",") ∷ []) (map (λ p. named p.name ∷ []) (param ∷ params))
     ++ mark (codes ")") ∷ []
 
+-- arguments or templates
+abbrev pub in_parentheses : List (List Piece) → List Piece
+in_parentheses parts =
+    mark (codes "(") ∷ parted (mark (codes ",") ∷ blank ∷ []) parts ++ mark (codes ")") ∷ []
+
+-- what parts one of these from the one before it
+abbrev pub comma_before : (index : ℕ) → List ℕ
+comma_before index = if index == 0 then [] else codes ", "
+
 -- A part stands in parentheses where it binds less closely than its place wants.
 abbrev pub operand : (least level : ℕ) → List Piece → List Piece
 operand least level pieces =
     if nat_lt level least then mark (codes "(") ∷ pieces ++ mark (codes ")") ∷ [] else pieces
+
+-- `name(params) = body`
+abbrev pub binding : List ℕ → List Param → (body : List Piece) → List Piece
+binding name params body =
+    named name ∷ params_pieces params ++ blank ∷ mark (codes "=") ∷ blank ∷ body
 
 abbrev mutual
   pub pieces : Tree → List Piece
@@ -193,18 +207,16 @@ abbrev mutual
   pieces (ranged at inner window offset) =
       operand 10 (level_of inner) (pieces inner) ++ window_pieces window ++ offset_pieces offset
   pieces (call at name args before after keep) =
-      named (call_name name) ∷ before_pieces before after
-      ++ mark (codes "(") ∷ parted (mark (codes ",") ∷ blank ∷ []) (arguments args)
-      ++ mark (codes ")") ∷ after_pieces before after ++ keep_pieces keep
+      named (call_name name) ∷ before_pieces before after ++ in_parentheses (arguments args)
+      ++ after_pieces before after ++ keep_pieces keep
   pieces (binary at op truth matching left right) =
       operand (level_of_op op) (level_of left) (pieces left)
       ++ operator_pieces op truth matching
       ++ operand (suc (level_of_op op)) (level_of right) (pieces right)
   pieces (negate at inner) = mark (codes "-") ∷ operand 9 (level_of inner) (pieces inner)
   pieces (with_templates at templates body) =
-      named (codes "WITH") ∷ blank ∷ mark (codes "(")
-      ∷ parted (mark (codes ",") ∷ blank ∷ []) (bindings templates)
-      ++ mark (codes ")") ∷ blank ∷ operand 1 (level_of body) (pieces body)
+      named (codes "WITH") ∷ blank ∷ in_parentheses (bindings templates)
+      ++ blank ∷ operand 1 (level_of body) (pieces body)
 
   -- the arguments of a call, each for itself
   pub arguments : Trees → List (List Piece)
@@ -215,9 +227,7 @@ abbrev mutual
   pub bindings : Templates → List (List Piece)
   bindings no_templates = []
   bindings (next_template at name params body templates) =
-      (named name ∷ params_pieces params
-      ++ blank ∷ mark (codes "=") ∷ blank ∷ operand 1 (level_of body) (pieces body))
-      ∷ bindings templates
+      binding name params (operand 1 (level_of body) (pieces body)) ∷ bindings templates
 
 -- a tree in its place
 abbrev pub placed : (least : ℕ) → Tree → List Piece

@@ -11,9 +11,11 @@ mod expr;
 mod item;
 mod names;
 mod print_parts;
+mod query_text;
 mod span_text;
 
 pub use build::{Called, Joint};
 pub use expr::{Expr, Node, Param, Template};
 pub use item::Item;
 pub use names::{Aggregate, Function, Known, Rollup};
+pub use query_text::print;
