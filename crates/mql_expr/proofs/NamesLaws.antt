@@ -1,5 +1,5 @@
 -- How a name is looked up.
-use Rattle.std.proofs.Common.{◌≡◌, ℕ, suc, ◌+◌, ◌<◌, false, List, length, drop, get_or, find, Option, Some, if◌then◌else◌, drop-cons, add-one, ap, ◌∙◌, refl}
+use Rattle.std.proofs.Common.{◌≡◌, ℕ, suc, ◌+◌, ◌<◌, false, List, length, drop, get_or, Some, if◌then◌else◌, drop-cons, add-one, ap, ◌∙◌}
 use Rattle.mql_expr.specs.Names.{has_name, first_named}
 use Rattle.mql_expr.specs.declared.names.Known.{Known}
 

@@ -1,10 +1,10 @@
 -- The text of things that are parted by something.
-use Rattle.std.proofs.Common.{◌≡◌, ℕ, zero, suc, ◌+◌, ◌<◌, ◌≤◌, ◌-◌, ◌==◌, eqb, false, if◌then◌else◌, List, [], ◌∷◌, ◌++◌, length, take, drop, get_or, map, codes, refl, sym, ap, ◌∙◌, append_assoc, append-nil, rules, arith}
+use Rattle.std.proofs.Common.{◌≡◌, ℕ, suc, ◌+◌, ◌<◌, ◌≤◌, ◌-◌, ◌==◌, false, if◌then◌else◌, List, [], ◌∷◌, ◌++◌, length, take, drop, get_or, map, codes, refl, sym, ap, ◌∙◌, append_assoc, append-nil, rules, arith}
 use Rattle.std.specs.Prelude.{flat_map}
 use Rattle.std.proofs.lemmas.Grind.{flat_map-append}
 use Rattle.std.proofs.lemmas.List.{take_rest, take_all, take_more, map_push, length-take, length-map}
 use Rattle.std.proofs.lemmas.Bool.Decides.{nat_tests}
-use Rattle.mql_expr.specs.Canonical.{Piece, blank, mark, piece_text, text_of, parted, named, parted_names, names_pieces, item_pieces, list_pieces, braces_pieces, params_pieces, comma_before, in_parentheses, placed, arguments, binding, bindings}
+use Rattle.mql_expr.specs.Canonical.{Piece, blank, mark, piece_text, text_of, parted, named, parted_names, list_pieces, braces_pieces, params_pieces, comma_before, in_parentheses, placed, arguments, binding, bindings}
 use Rattle.mql_expr.specs.Tree.{tree, trees_in, template, templates_in}
 use Rattle.mql_expr.specs.declared.expr.Expr.{Expr, the_lemmas}
 use Rattle.mql_expr.specs.declared.expr.Param.{Param}

@@ -1,5 +1,5 @@
 -- The canonical text of a query: its words, and the blanks between them.
-use Rattle.std.specs.Prelude.{ℕ, suc, ◌==◌, nat_lt, Bool, true, false, List, [], ◌∷◌, ◌++◌, map, flat_map, Option, Some, None, codes, if◌then◌else◌}
+use Rattle.std.specs.Prelude.{ℕ, suc, ◌==◌, nat_lt, Bool, List, [], ◌∷◌, ◌++◌, map, flat_map, Option, Some, None, codes, if◌then◌else◌}
 use Rattle.std.specs.Option.{option_map_or}
 use Rattle.mql_lex.specs.declared.group.Group.{Group}
 use Rattle.mql_lex.specs.declared.group.Matching.{Matching}
@@ -14,7 +14,6 @@ use Rattle.mql_lex.specs.declared.token.TokenKind.{TokenKind}
 use Rattle.mql_lex.specs.declared.token.TokenKind.TheVariants.{Name, Number, Duration, Str, Mark}
 use Rattle.vm_decimal.specs.NumberText.{number_text}
 use Rattle.vm_labels.specs.Text.{escaped_byte}
-use Rattle.vm_labels.specs.declared.selector.Filter.{Filter}
 use Rattle.vm_labels.specs.declared.selector.FilterOp.{FilterOp}
 use Rattle.vm_labels.specs.declared.selector.FilterOp.TheVariants.{Matches, MatchesNot, Equal as EqualTo, Differs as DiffersFrom}
 use Rattle.mql_expr.specs.Levels.{level_of, level_of_op}

@@ -1,5 +1,5 @@
 -- The names of functions and aggregates. (MetricsQL, "MetricsQL functions")
-use Rattle.std.specs.Prelude.{ℕ, Bool, List, [], ◌∷◌, ◌++◌, map, find, Option, Some, None, codes}
+use Rattle.std.specs.Prelude.{ℕ, Bool, List, [], ◌∷◌, ◌++◌, map, find, Option, codes}
 use Rattle.std.specs.Str.{str_eq_ignore_ascii_case}
 use Rattle.mql_expr.specs.declared.names.Rollup.{Rollup}
 use Rattle.mql_expr.specs.declared.names.Rollup.TheVariants.{DefaultRollup, LastOverTime, FirstOverTime, MinOverTime, MaxOverTime, AvgOverTime, SumOverTime, CountOverTime, DistinctOverTime, PresentOverTime, RangeOverTime, Changes, Resets, Delta, Increase, Rate, DerivFast, Idelta, Ideriv, Irate, Lag, Lifetime, TfirstOverTime, TlastOverTime, TminOverTime, TmaxOverTime}

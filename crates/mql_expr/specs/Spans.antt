@@ -1,5 +1,5 @@
 -- How a span of time is written.
-use Rattle.std.specs.Prelude.{ℕ, ◌*◌, ◌/◌, ◌%◌, ◌==◌, ◌&&◌, ◌||◌, Bool, pos, int_lt, unsigned_abs, List, [], ◌∷◌, ◌++◌, codes, if◌then◌else◌}
+use Rattle.std.specs.Prelude.{ℕ, ◌/◌, ◌%◌, ◌==◌, ◌&&◌, ◌||◌, Bool, pos, int_lt, unsigned_abs, List, [], ◌++◌, codes, if◌then◌else◌}
 use Rattle.std.specs.Fmt.{decimal}
 use Rattle.mql_lex.specs.declared.span.Span.{Span}
 use Rattle.mql_expr.specs.declared.span_text.Unit.{Unit as UnitOf}

@@ -1,4 +1,4 @@
-use Rattle.std.proofs.Common.{◌≡◌, sym, ◌∙◌}
+use Rattle.std.proofs.Common.{sym, ◌∙◌}
 use Rattle.mql_expr.proofs.NamesLaws.{passed}
 use Rattle.mql_expr.proofs.names.named_among.Goals as goal
 

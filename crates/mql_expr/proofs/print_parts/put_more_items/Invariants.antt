@@ -1,5 +1,5 @@
 use Rattle.std.proofs.Common.{◌≡◌, ◌++◌, ◌∷◌, take}
-use Rattle.std.specs.Prelude.{flat_map, codes}
+use Rattle.std.specs.Prelude.{flat_map}
 use Rattle.mql_expr.specs.Canonical.{text_of, item_pieces}
 use Rattle.mql_expr.proofs.print_parts.put_more_items.Given as goal
 

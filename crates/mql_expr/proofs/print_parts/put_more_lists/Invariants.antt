@@ -1,4 +1,4 @@
-use Rattle.std.proofs.Common.{◌≡◌, ◌++◌, ◌∷◌, take}
+use Rattle.std.proofs.Common.{◌≡◌, ◌++◌, take}
 use Rattle.std.specs.Prelude.{flat_map, codes}
 use Rattle.mql_expr.specs.Canonical.{text_of, list_pieces}
 use Rattle.mql_expr.proofs.print_parts.put_more_lists.Given as goal

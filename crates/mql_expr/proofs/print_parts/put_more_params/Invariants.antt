@@ -1,5 +1,5 @@
 use Rattle.std.proofs.Common.{◌≡◌, ◌++◌, ◌∷◌, take}
-use Rattle.std.specs.Prelude.{flat_map, codes}
+use Rattle.std.specs.Prelude.{flat_map}
 use Rattle.mql_expr.proofs.print_parts.put_more_params.Given as goal
 
 abbrev pub invariant-loop-param : goal.invariant-loop-param
