@@ -1,14 +1,15 @@
 -- The text of things that are parted by something.
-use Rattle.std.proofs.Common.{◌≡◌, ℕ, suc, ◌+◌, ◌<◌, ◌≤◌, ◌-◌, ◌==◌, false, if◌then◌else◌, List, [], ◌∷◌, ◌++◌, length, take, drop, get_or, map, codes, refl, sym, ap, ◌∙◌, append_assoc, append-nil, rules, arith}
+use Rattle.std.proofs.Common.{◌≡◌, ℕ, suc, ◌+◌, ◌<◌, ◌≤◌, ◌-◌, ◌==◌, false, if◌then◌else◌, List, [], ◌∷◌, ◌++◌, length, take, drop, get_or, map, codes, refl, sym, ap, ◌∙◌, append_assoc, append-nil, arith}
 use Rattle.std.specs.Prelude.{flat_map}
 use Rattle.std.proofs.lemmas.Grind.{flat_map-append}
 use Rattle.std.proofs.lemmas.List.{take_rest, take_all, take_more, map_push, length-take, length-map}
 use Rattle.std.proofs.lemmas.Bool.Decides.{nat_tests}
 use Rattle.mql_expr.specs.Canonical.{Piece, blank, mark, piece_text, text_of, parted, named, parted_names, list_pieces, braces_pieces, params_pieces, comma_before, in_parentheses, placed, arguments, binding, bindings}
 use Rattle.mql_expr.specs.Tree.{tree, trees_in, template, templates_in}
-use Rattle.mql_expr.specs.declared.expr.Expr.{Expr, the_lemmas}
+use Rattle.mql_expr.specs.declared.expr.Expr.{Expr}
 use Rattle.mql_expr.specs.declared.expr.Param.{Param}
 use Rattle.mql_expr.specs.declared.expr.Template.{Template}
+use Rattle.mql_expr.proofs.TreeLaws.{template_is}
 use Rattle.mql_expr.specs.declared.item.Item.{Item}
 
 -- what stands between arguments, and between templates
@@ -112,9 +113,6 @@ text_more f old one two three xs i x low is so_far before put =
 pub arguments_of : (args : List Expr) → arguments (trees_in args) ≡ map (λ e. placed 1 (tree e)) args
 arguments_of [] = refl
 arguments_of (e ∷ es) = ap (λ ps. placed 1 (tree e) ∷ ps) (arguments_of es)
-
-template_is : (t : Template) → template t ≡ record { at = t.at; name = t.name; params = t.params; body = tree t.body }
-template_is t = search (rules, the_lemmas)
 
 abbrev pub binding_of : Template → List Piece
 binding_of t = binding t.name t.params (placed 1 (tree t.body))

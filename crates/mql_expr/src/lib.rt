@@ -6,16 +6,23 @@
 //! `vm_decimal` for numbers and on `vm_base` for lists and texts.
 #![tactic(auto)]
 
+mod arguments;
 mod build;
 mod expr;
+mod fault;
 mod item;
+mod kinds;
 mod names;
 mod print_parts;
+mod query_check;
 mod query_text;
 mod span_text;
 
+pub use arguments::{Kind, Rest};
 pub use build::{Called, Joint};
 pub use expr::{Expr, Node, Param, Template};
+pub use fault::CheckFault;
 pub use item::Item;
 pub use names::{Aggregate, Function, Known, Rollup};
+pub use query_check::check;
 pub use query_text::print;
