@@ -1,6 +1,11 @@
 -- Arguments and templates as they are gone over one by one.
-use Rattle.std.proofs.Common.{◌≡◌, ℕ, suc, ◌+◌, ◌<◌, List, ◌∷◌, length, drop, get_or, drop-cons, add-one, rules, sym, ap, ◌∙◌}
-use Rattle.mql_expr.specs.Tree.{Trees, Templates, next_tree, next_template, tree, trees_in, template, templates_in}
+use Rattle.std.proofs.Common.{◌≡◌, ℕ, Bool, Option, refl, [], suc, ◌+◌, ◌<◌, List, ◌∷◌, length, drop, get_or, drop-cons, add-one, rules, sym, ap, ◌∙◌}
+use Rattle.mql_lex.specs.declared.group.Matching.{Matching}
+use Rattle.mql_lex.specs.declared.operator.Op.{Op}
+use Rattle.mql_lex.specs.declared.span.Span.{Span}
+use Rattle.mql_expr.specs.Check.{count_of}
+use Rattle.mql_expr.specs.declared.expr.Node.TheVariants.{Ranged, Binary, With}
+use Rattle.mql_expr.specs.Tree.{Trees, Templates, next_tree, next_template, ranged, binary, with_templates, tree, trees_in, template, templates_in}
 use Rattle.mql_expr.specs.declared.expr.Expr.{Expr, the_lemmas}
 use Rattle.mql_expr.specs.declared.expr.Template.{Template}
 
@@ -20,3 +25,17 @@ template_at ts i t low is =
     let more = templates_in (drop (suc i) ts) in
     rw add-one (ap templates_in (drop-cons ts i t low) ∙ ap (λ u. templates_in (u ∷ drop (suc i) ts)) (sym is)
     ∙ ap (λ u. next_template u.at u.name u.params u.body more) (template_is t))
+
+pub tree_ranged : (e inner : Expr) (window offset : Option Span) → e.node ≡ Ranged inner window offset → tree e ≡ ranged e.at (tree inner) window offset
+tree_ranged e inner window offset is = search (rules, the_lemmas)
+
+pub tree_binary : (e left right : Expr) (op : Op) (truth : Bool) (matching : Matching) → e.node ≡ Binary op truth matching left right
+    → tree e ≡ binary e.at op truth matching (tree left) (tree right)
+tree_binary e left right op truth matching is = search (rules, the_lemmas)
+
+pub tree_with : (e body : Expr) (ts : List Template) → e.node ≡ With ts body → tree e ≡ with_templates e.at (templates_in ts) (tree body)
+tree_with e body ts is = search (rules, the_lemmas)
+
+pub count_is : (args : List Expr) → count_of (trees_in args) ≡ length args
+count_is [] = refl
+count_is (e ∷ es) = ap suc (count_is es)

@@ -119,6 +119,7 @@ fn call_fits(
     arguments_fit(known, args) && words_fit(known, before, after, keep)
 }
 
+#[tactic(auto, using(crate::proofs::TreeLaws::count_is))]
 fn arguments_fit(known: Known, args: &[Expr]) -> bool
     ensures { result ≡ arguments_do_fit known (trees_in args.now) }
 {
