@@ -5,7 +5,7 @@ use Rattle.std.proofs.lemmas.Grind.{flat_map-append}
 use Rattle.std.proofs.lemmas.List.{take_rest, take_all, take_more, map_push, length-take, length-map}
 use Rattle.std.proofs.lemmas.Bool.Decides.{nat_tests}
 use Rattle.mql_expr.specs.Canonical.{Piece, blank, mark, piece_text, text_of, parted, named, parted_names, list_pieces, braces_pieces, params_pieces, comma_before, in_parentheses, placed, arguments, binding, bindings}
-use Rattle.mql_expr.specs.Tree.{tree, trees_in, template, templates_in}
+use Rattle.mql_expr.specs.Tree.{tree, trees_in, templates_in}
 use Rattle.mql_expr.specs.declared.expr.Expr.{Expr}
 use Rattle.mql_expr.specs.declared.expr.Param.{Param}
 use Rattle.mql_expr.specs.declared.expr.Template.{Template}

@@ -5,7 +5,7 @@ use Rattle.mql_lex.specs.declared.operator.Op.{Op}
 use Rattle.mql_lex.specs.declared.span.Span.{Span}
 use Rattle.mql_expr.specs.Check.{count_of}
 use Rattle.mql_expr.specs.declared.expr.Node.TheVariants.{Ranged, Binary, With}
-use Rattle.mql_expr.specs.Tree.{Trees, Templates, next_tree, next_template, ranged, binary, with_templates, tree, trees_in, template, templates_in}
+use Rattle.mql_expr.specs.Tree.{next_tree, next_template, ranged, binary, with_templates, tree, trees_in, template, templates_in}
 use Rattle.mql_expr.specs.declared.expr.Expr.{Expr, the_lemmas}
 use Rattle.mql_expr.specs.declared.expr.Template.{Template}
 

@@ -1,5 +1,5 @@
 -- Which arguments functions and aggregates take. (MetricsQL, "MetricsQL functions")
-use Rattle.std.specs.Prelude.{ℕ, ◌-◌, ◌%◌, ◌==◌, ◌&&◌, not, nat_lt, nat_le, Bool, true, false, List, [], ◌∷◌, length, slice_get, Option, Some, None, if◌then◌else◌}
+use Rattle.std.specs.Prelude.{ℕ, ◌-◌, ◌%◌, ◌==◌, ◌&&◌, nat_lt, nat_le, Bool, true, false, List, [], ◌∷◌, length, slice_get, Option, Some, None, if◌then◌else◌}
 use Rattle.mql_expr.specs.declared.arguments.Kind.{Kind}
 use Rattle.mql_expr.specs.declared.arguments.Kind.TheVariants.{Series, Selector, Count as Counted, Positive, LabelName, Quoted, Numeric}
 use Rattle.mql_expr.specs.declared.arguments.Rest.{Rest}

@@ -1,9 +1,9 @@
 -- What is wrong with a query that was read.
-use Rattle.std.specs.Prelude.{ℕ, zero, suc, ◌&&◌, ◌||◌, not, Bool, true, false, List, [], ◌∷◌, ◌++◌, Option, Some, None, Result, Ok, Err, is_some, if◌then◌else◌}
+use Rattle.std.specs.Prelude.{ℕ, suc, ◌&&◌, ◌||◌, not, Bool, true, false, List, [], ◌∷◌, ◌++◌, Option, Some, None, Result, Ok, Err, is_some, if◌then◌else◌}
 use Rattle.std.specs.Option.{option_map_or}
 use Rattle.mql_lex.specs.declared.group.Group.{Group}
 use Rattle.mql_lex.specs.declared.group.Many.{Many}
-use Rattle.mql_lex.specs.declared.group.Many.TheVariants.{One, Left, Right}
+use Rattle.mql_lex.specs.declared.group.Many.TheVariants.{One}
 use Rattle.mql_lex.specs.declared.operator.Op.{Op}
 use Rattle.mql_expr.specs.Arguments.{first_kinds, rest_of, kind_at, may_end}
 use Rattle.mql_expr.specs.Kinds.{is_string, is_select, is_of_numbers, is_of_kind}
@@ -12,7 +12,7 @@ use Rattle.mql_expr.specs.Tree.{Tree, Trees, Templates, number, string, select, 
 use Rattle.mql_expr.specs.declared.fault.CheckFault.{CheckFault}
 use Rattle.mql_expr.specs.declared.fault.CheckFault.TheVariants.{UnknownFunction, WrongArguments}
 use Rattle.mql_expr.specs.declared.names.Known.{Known}
-use Rattle.mql_expr.specs.declared.names.Known.TheVariants.{OfWindow, OfGroup, OfPoints}
+use Rattle.mql_expr.specs.declared.names.Known.TheVariants.{OfGroup}
 
 abbrev pub count_of : Trees → ℕ
 count_of no_trees = 0

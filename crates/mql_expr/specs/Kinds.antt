@@ -1,5 +1,5 @@
 -- What an expression may stand for as an argument.
-use Rattle.std.specs.Prelude.{ℕ, ℤ, pos, ◌==◌, ◌&&◌, not, int_lt, Bool, true, false, Option, Some, None, List}
+use Rattle.std.specs.Prelude.{ℤ, pos, ◌&&◌, not, int_lt, Bool, true, false, Option, Some}
 use Rattle.std.specs.Ordering.{int_eq}
 use Rattle.std.specs.Option.{option_map_or}
 use Rattle.mql_lex.specs.declared.operator.Op.{Op}
@@ -11,10 +11,9 @@ use Rattle.mql_expr.specs.Names.{known_as}
 use Rattle.mql_expr.specs.Tree.{Tree, Trees, number, string, select, ranged, call, binary, negate, with_templates, no_trees, next_tree}
 use Rattle.mql_expr.specs.declared.arguments.Kind.{Kind}
 use Rattle.mql_expr.specs.declared.arguments.Kind.TheVariants.{Series, Selector, Count as Counted, Positive, LabelName, Quoted, Numeric}
-use Rattle.mql_expr.specs.declared.names.Function.{Function}
 use Rattle.mql_expr.specs.declared.names.Function.TheVariants.{Abs, Sgn, Ceil, Floor, Round, Clamp, ClampMin, ClampMax, Scalar, Time}
 use Rattle.mql_expr.specs.declared.names.Known.{Known}
-use Rattle.mql_expr.specs.declared.names.Known.TheVariants.{OfWindow, OfGroup, OfPoints}
+use Rattle.mql_expr.specs.declared.names.Known.TheVariants.{OfPoints}
 
 abbrev pub is_string : Tree → Bool
 is_string (string at text) = true

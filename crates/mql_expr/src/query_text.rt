@@ -1,16 +1,15 @@
 //! The canonical text of a query.
 
-ghost use Rattle.std.specs.Prelude.{◌≡◌, ◌++◌, ◌≤◌, OnOk, OnErr};
+ghost use Rattle.std.specs.Prelude.{◌≡◌, ◌++◌, OnOk, OnErr};
 ghost use Rattle.mql_expr.specs.Canonical.{canonical, text_of, pieces, placed, comma_before, arguments, bindings, binding, in_parentheses};
-ghost use Rattle.mql_expr.specs.Levels.{level_of as level, level_of_op as op_level};
 ghost use Rattle.mql_expr.specs.Tree.{tree, trees_in, templates_in};
 
 use crate::expr::{Expr, Node, Template};
+use crate::levels::{level_of, level_of_op};
 use crate::print_parts::{
     put_after, put_before, put_call_name, put_keep, put_offset, put_operator, put_params,
     put_select, put_string, put_text, put_window,
 };
-use mql_lex::Op;
 use std::alloc::AllocError;
 
 /// Appends the canonical text of a query to `out`, which stays as it was where memory runs out.
@@ -142,32 +141,4 @@ fn put_template(template: &Template, out: &mut Vec<u8>) -> Result<(), AllocError
     put_params(template.params.as_slice(), out)?;
     out.extend_from_slice(b" = ")?;
     put_placed(1, &template.body, out)
-}
-
-/// How closely an expression binds.
-fn level_of(expr: &Expr) -> u8
-    ensures { result ≡ level (tree expr.now) }
-{
-    match &expr.node {
-        Node::With { .. } => 0,
-        Node::Binary { op, .. } => level_of_op(*op),
-        Node::Negate(_) => 8,
-        Node::Ranged { .. } => 9,
-        _ => 10,
-    }
-}
-
-fn level_of_op(op: Op) -> u8
-    ensures value { result ≡ op_level op }
-    ensures high { result ≤ 7 }
-{
-    match op {
-        Op::Default => 1,
-        Op::If | Op::IfNot => 2,
-        Op::Or => 3,
-        Op::And | Op::Unless => 4,
-        Op::Equal | Op::Differs | Op::AtMost | Op::AtLeast | Op::Below | Op::Above => 5,
-        Op::Add | Op::Sub => 6,
-        Op::Mul | Op::Div | Op::Rem => 7,
-    }
 }
