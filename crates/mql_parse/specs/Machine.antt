@@ -1,0 +1,385 @@
+-- A machine that reads a query, one word at a time. That it reads what `specs/Grammar.antt` says is
+-- proved.
+use Rattle.std.specs.Prelude.{ℕ, zero, suc, ◌==◌, ◌&&◌, nat_lt, nat_le, Bool, true, false, List, [], ◌∷◌, ◌++◌, Option, Some, None, is_some, if◌then◌else◌}
+use Rattle.std.specs.Option.{option_map}
+use Rattle.mql_lex.specs.declared.group.Group.{Group}
+use Rattle.mql_lex.specs.declared.group.Many.{Many}
+use Rattle.mql_lex.specs.declared.group.Many.TheVariants.{One, Left, Right}
+use Rattle.mql_lex.specs.declared.group.MatchKind.{MatchKind}
+use Rattle.mql_lex.specs.declared.group.MatchKind.TheVariants.{All, On, Ignoring}
+use Rattle.mql_lex.specs.declared.group.Matching.{Matching}
+use Rattle.mql_lex.specs.declared.operator.Op.{Op}
+use Rattle.mql_lex.specs.declared.span.Span.{Span}
+use Rattle.mql_parse.specs.Stub.{Class, Word, class_of, Item, Param, Progress, goes, done, NamesState, names_at, names_step, ParamsState, params_at, params_step, BracesState, braces_at, braces_step, Tree, number, string, select, ranged, call, binary, negate, with_templates, trees_of, TreeTemplate, templates_listed, string_value}
+use Rattle.mql_parse.specs.Values.{number_of, or_zero, length_of, is_short, ahead, back}
+use Rattle.mql_parse.specs.Grammar.{level, is_comparison, deepest, matching}
+
+-- a call as far as it was read
+pub record Call : Type 0 where
+  pub at : ℕ
+  pub name : List ℕ
+  pub args : List Tree
+  pub before : Option Group
+  pub after : Option Group
+
+-- an operator and its left operand
+pub record Joint : Type 0 where
+  pub at : ℕ
+  pub op : Op
+  pub truth : Bool
+  pub operand : Tree
+
+-- a `with` and its templates so far
+pub record Scope : Type 0 where
+  pub at : ℕ
+  pub templates : List TreeTemplate
+
+-- the head of a template
+pub record Head : Type 0 where
+  pub at : ℕ
+  pub name : List ℕ
+
+-- what an expression stands in, as far as it was read
+pub data Frame : Type 0 where
+  in_parens : Frame
+  in_minus : (at : ℕ) → Frame
+  in_plus : Frame
+  in_operator : Joint → Matching → Frame
+  in_args : Call → Frame
+  in_template : Scope → Head → List Param → Frame
+  in_body : Scope → Frame
+
+-- what names in parentheses are for
+pub data Purpose : Type 0 where
+  before_args : Call → Bool → Purpose
+  after_args : Call → Bool → Purpose
+  matched_by : Joint → MatchKind → Purpose
+  taken_over : Joint → MatchKind → List (List ℕ) → Many → Purpose
+
+-- what stands right before the next word
+pub data Before : Type 0 where
+  -- An expression is wanted.
+  wanted : Before
+  -- a name
+  named : Head → Before
+  -- a call with its group, before its arguments; behind them; and with the group behind them
+  grouped : Call → Before
+  called : Call → Before
+  regrouped : Call → Before
+  -- a word that wants names in parentheses, and among these names
+  names_wanted : Purpose → Before
+  in_names : Purpose → NamesState → Before
+  -- in the braces of a selector
+  in_braces : (at : ℕ) → Option (List ℕ) → BracesState → Before
+  -- an expression that may take a window or an offset, and the parts of these
+  primary : Tree → Before
+  window_wanted : (at : ℕ) → Tree → Before
+  window_read : (at : ℕ) → Tree → Span → Before
+  windowed : (at : ℕ) → Tree → Span → Before
+  offset_wanted : (at : ℕ) → Tree → Option Span → Before
+  offset_back : (at : ℕ) → Tree → Option Span → Before
+  -- an expression that takes neither
+  complete : Tree → Before
+  -- an operator, with what may stand behind it
+  operated : Joint → Before
+  compared : Joint → Before
+  matched : Joint → MatchKind → List (List ℕ) → Before
+  many_read : Joint → MatchKind → List (List ℕ) → Many → Before
+  -- a `with`, and the parts of its templates
+  with_read : (at : ℕ) → Before
+  template_wanted : Scope → Before
+  template_named : Scope → Head → Before
+  in_params : Scope → Head → ParamsState → Before
+  template_headed : Scope → Head → List Param → Before
+
+pub record State : Type 0 where
+  pub frames : List Frame
+  pub before : Before
+
+abbrev pub at : List Frame → Before → State
+at frames before = record { frames = frames; before = before }
+
+abbrev pub only : Bool → State → Option State
+only true s = Some s
+only false s = None
+
+-- ---- levels
+
+abbrev pub opens : Frame → Bool
+opens in_parens = true
+opens (in_minus _) = true
+opens in_plus = true
+opens (in_args _) = true
+opens (in_template _ _ _) = true
+opens (in_operator _ _) = false
+opens (in_body _) = false
+
+-- how many levels are open
+abbrev pub opened : List Frame → ℕ
+opened [] = 0
+opened (f ∷ fs) = if opens f then suc (opened fs) else opened fs
+
+-- a limit that binds within the text alone
+abbrev pub fits : (within under : Bool) → Bool
+fits true under = under
+fits false under = true
+
+-- where a word at this place may open one more
+abbrev pub opening : (len place : ℕ) → List Frame → State → Option State
+opening len place fs s = only (fits (nat_lt place len) (nat_lt (opened fs) deepest)) s
+
+-- ---- operands
+
+abbrev pub joined : Joint → Matching → Tree → Tree
+joined j m t = binary j.at j.op j.truth m j.operand t
+
+abbrev pub calling : Call → Bool → Tree
+calling c keep = call c.at c.name (trees_of c.args) c.before c.after keep
+
+-- frames and the expression that stands in them
+pub record Reduced : Type 0 where
+  pub frames : List Frame
+  pub tree : Tree
+
+-- The frames that an operator of this level ends, end; 0 ends all that need no closing bracket.
+abbrev pub reduce : ℕ → List Frame → Tree → Reduced
+reduce k [] t = record { frames = []; tree = t }
+reduce k (in_minus at ∷ fs) t = reduce k fs (negate at t)
+reduce k (in_plus ∷ fs) t = reduce k fs t
+reduce k (in_operator j m ∷ fs) t =
+    if nat_le k (level j.op) then reduce k fs (joined j m t) else record { frames = in_operator j m ∷ fs; tree = t }
+reduce k (in_body scope ∷ fs) t =
+    if k == 0 then reduce k fs (with_templates scope.at (templates_listed scope.templates) t)
+    else record { frames = in_body scope ∷ fs; tree = t }
+reduce k (f ∷ fs) t = record { frames = f ∷ fs; tree = t }
+
+-- behind an operator
+abbrev pub operate : Reduced → Word → Op → State
+operate r w op = at r.frames (operated (record { at = w.at; op = op; truth = false; operand = r.tree }))
+
+abbrev pub one_more : Call → Tree → Call
+one_more c t = record { at = c.at; name = c.name; args = c.args ++ t ∷ []; before = c.before; after = c.after }
+
+abbrev pub with_one_more : Scope → Head → List Param → Tree → Scope
+with_one_more s h ps t = record { at = s.at; templates = s.templates ++ record { at = h.at; name = h.name; params = ps; body = t } ∷ [] }
+
+-- behind `)`
+abbrev pub close_frame : List Frame → Tree → Option State
+close_frame (in_parens ∷ fs) t = Some (at fs (primary t))
+close_frame (in_args c ∷ fs) t = Some (at fs (called (one_more c t)))
+close_frame (in_template s h ps ∷ fs) t = Some (at (in_body (with_one_more s h ps t) ∷ fs) wanted)
+close_frame _ t = None
+
+abbrev pub close : Reduced → Option State
+close r = close_frame r.frames r.tree
+
+-- behind `,`
+abbrev pub continue_frame : List Frame → Tree → Option State
+continue_frame (in_args c ∷ fs) t = Some (at (in_args (one_more c t) ∷ fs) wanted)
+continue_frame (in_template s h ps ∷ fs) t = Some (at fs (template_wanted (with_one_more s h ps t)))
+continue_frame _ t = None
+
+abbrev pub continue : Reduced → Option State
+continue r = continue_frame r.frames r.tree
+
+-- what comes of an expression where the text ends
+abbrev pub end_frame : List Frame → Tree → Option Tree
+end_frame [] t = Some t
+end_frame (f ∷ fs) t = None
+
+abbrev pub end : Reduced → Option Tree
+end r = end_frame r.frames r.tree
+
+-- ---- moves
+
+abbrev pub go_on : List Frame → Tree → Word → Class → Option State
+go_on fs t w (Class.Operator op) = Some (operate (reduce (level op) fs t) w op)
+go_on fs t w Class.Close = close (reduce 0 fs t)
+go_on fs t w Class.Comma = continue (reduce 0 fs t)
+go_on fs t w _ = None
+
+abbrev pub by_window : List Frame → (at : ℕ) → Tree → Span → Word → Class → Option State
+by_window fs place t span w Class.Offset = Some (at fs (offset_wanted place t (Some span)))
+by_window fs place t span w c = go_on fs (ranged place t (Some span) None) w c
+
+abbrev pub by_primary : List Frame → Tree → Word → Class → Option State
+by_primary fs t w Class.OpenBracket = Some (at fs (window_wanted w.at t))
+by_primary fs t w Class.Offset = Some (at fs (offset_wanted w.at t None))
+by_primary fs t w c = go_on fs t w c
+
+abbrev pub by_regrouped : List Frame → Call → Word → Class → Option State
+by_regrouped fs c w Class.Keep = Some (at fs (primary (calling c true)))
+by_regrouped fs c w class = by_primary fs (calling c false) w class
+
+abbrev pub by_called : List Frame → Call → Word → Class → Option State
+by_called fs c w Class.By = Some (at fs (names_wanted (after_args c true)))
+by_called fs c w Class.Without = Some (at fs (names_wanted (after_args c false)))
+by_called fs c w class = by_regrouped fs c w class
+
+abbrev pub call_of : Head → Call
+call_of h = record { at = h.at; name = h.name; args = []; before = None; after = None }
+
+abbrev pub metric : Head → Tree
+metric h = select h.at (Some h.name) []
+
+abbrev pub by_named : (len : ℕ) → List Frame → Head → Word → Class → Option State
+by_named len fs h w Class.Open = opening len w.at fs (at (in_args (call_of h) ∷ fs) wanted)
+by_named len fs h w Class.OpenBrace = Some (at fs (in_braces h.at (Some h.name) braces_at))
+by_named len fs h w Class.By = Some (at fs (names_wanted (before_args (call_of h) true)))
+by_named len fs h w Class.Without = Some (at fs (names_wanted (before_args (call_of h) false)))
+by_named len fs h w c = by_primary fs (metric h) w c
+
+-- behind the `)` of arguments, where none stands before it
+abbrev pub no_more : List Frame → Option State
+no_more (in_args c ∷ fs) = Some (at fs (called c))
+no_more _ = None
+
+abbrev pub head_of : Word → Head
+head_of w = record { at = w.at; name = w.text }
+
+abbrev pub by_wanted : (len : ℕ) → List Frame → Word → Class → Option State
+by_wanted len fs w Class.Number =
+    only (fits (nat_lt w.at len) (is_some (number_of w.text))) (at fs (primary (number w.at (or_zero (number_of w.text)))))
+by_wanted len fs w Class.Str = Some (at fs (primary (string w.at (string_value w.text))))
+by_wanted len fs w Class.Name = Some (at fs (named (head_of w)))
+by_wanted len fs w Class.OpenBrace = Some (at fs (in_braces w.at None braces_at))
+by_wanted len fs w Class.Open = opening len w.at fs (at (in_parens ∷ fs) wanted)
+by_wanted len fs w Class.Close = no_more fs
+by_wanted len fs w Class.With = Some (at fs (with_read w.at))
+by_wanted len fs w (Class.Operator Op.Sub) = opening len w.at fs (at (in_minus w.at ∷ fs) wanted)
+by_wanted len fs w (Class.Operator Op.Add) = opening len w.at fs (at (in_plus ∷ fs) wanted)
+by_wanted len fs w _ = None
+
+-- where a duration is wanted
+abbrev pub measured : (len : ℕ) → Word → State → Option State
+measured len w s = only (fits (nat_lt w.at len) (is_short (length_of w.text))) s
+
+abbrev pub by_window_wanted : (len : ℕ) → List Frame → (place : ℕ) → Tree → Word → Class → Option State
+by_window_wanted len fs place t w Class.Duration = measured len w (at fs (window_read place t (ahead (length_of w.text))))
+by_window_wanted len fs place t w _ = None
+
+abbrev pub by_window_read : List Frame → (place : ℕ) → Tree → Span → Class → Option State
+by_window_read fs place t span Class.CloseBracket = Some (at fs (windowed place t span))
+by_window_read fs place t span _ = None
+
+abbrev pub by_offset_wanted : (len : ℕ) → List Frame → (place : ℕ) → Tree → Option Span → Word → Class → Option State
+by_offset_wanted len fs place t window w Class.Duration = measured len w (at fs (complete (ranged place t window (Some (ahead (length_of w.text))))))
+by_offset_wanted len fs place t window w (Class.Operator Op.Sub) = Some (at fs (offset_back place t window))
+by_offset_wanted len fs place t window w _ = None
+
+abbrev pub by_offset_back : (len : ℕ) → List Frame → (place : ℕ) → Tree → Option Span → Word → Class → Option State
+by_offset_back len fs place t window w Class.Duration = measured len w (at fs (complete (ranged place t window (Some (back (length_of w.text))))))
+by_offset_back len fs place t window w _ = None
+
+-- behind an operator with all that belongs to it
+abbrev pub joining : List Frame → Joint → Matching → List Frame
+joining fs j m = in_operator j m ∷ fs
+
+abbrev pub by_many : (len : ℕ) → List Frame → Joint → MatchKind → List (List ℕ) → Many → Word → Class → Option State
+by_many len fs j kind names side w Class.Open = Some (at fs (in_names (taken_over j kind names side) names_at))
+by_many len fs j kind names side w c = by_wanted len (joining fs j (matching kind names side [])) w c
+
+abbrev pub by_matched : (len : ℕ) → List Frame → Joint → MatchKind → List (List ℕ) → Word → Class → Option State
+by_matched len fs j kind names w Class.GroupLeft = Some (at fs (many_read j kind names Left))
+by_matched len fs j kind names w Class.GroupRight = Some (at fs (many_read j kind names Right))
+by_matched len fs j kind names w c = by_wanted len (joining fs j (matching kind names One [])) w c
+
+abbrev pub by_compared : (len : ℕ) → List Frame → Joint → Word → Class → Option State
+by_compared len fs j w Class.On = Some (at fs (names_wanted (matched_by j On)))
+by_compared len fs j w Class.Ignoring = Some (at fs (names_wanted (matched_by j Ignoring)))
+by_compared len fs j w c = by_wanted len (joining fs j (matching All [] One [])) w c
+
+abbrev pub true_joint : Joint → Joint
+true_joint j = record { at = j.at; op = j.op; truth = true; operand = j.operand }
+
+abbrev pub by_operated : (len : ℕ) → List Frame → Joint → Word → Class → Option State
+by_operated len fs j w Class.Truth = only (is_comparison j.op) (at fs (compared (true_joint j)))
+by_operated len fs j w c = by_compared len fs j w c
+
+abbrev pub by_names_wanted : List Frame → Purpose → Class → Option State
+by_names_wanted fs p Class.Open = Some (at fs (in_names p names_at))
+by_names_wanted fs p _ = None
+
+-- behind names in parentheses
+abbrev pub named_for : List Frame → Purpose → List (List ℕ) → State
+named_for fs (before_args c by) names = at fs (grouped (record { at = c.at; name = c.name; args = c.args; before = Some (record { by = by; names = names }); after = c.after }))
+named_for fs (after_args c by) names = at fs (regrouped (record { at = c.at; name = c.name; args = c.args; before = c.before; after = Some (record { by = by; names = names }) }))
+named_for fs (matched_by j kind) names = at fs (matched j kind names)
+named_for fs (taken_over j kind by_names side) names = at (joining fs j (matching kind by_names side names)) wanted
+
+-- one step of the machine of a part, whose state stands in one of this machine
+abbrev pub within_part : {S V : Type 0} → (S → State) → (V → State) → Option (Progress S V) → Option State
+within_part on off None = None
+within_part on off (Some (goes s)) = Some (on s)
+within_part on off (Some (done v)) = Some (off v)
+
+abbrev pub by_grouped : (len : ℕ) → List Frame → Call → Word → Class → Option State
+by_grouped len fs c w Class.Open = opening len w.at fs (at (in_args c ∷ fs) wanted)
+by_grouped len fs c w _ = None
+
+abbrev pub by_with_read : (len : ℕ) → List Frame → (place : ℕ) → Word → Class → Option State
+by_with_read len fs place w Class.Open = opening len w.at fs (at fs (template_wanted (record { at = place; templates = [] })))
+by_with_read len fs place w _ = None
+
+abbrev pub by_template_wanted : List Frame → Scope → Word → Class → Option State
+by_template_wanted fs s w Class.Name = Some (at fs (template_named s (head_of w)))
+by_template_wanted fs s w Class.Close = Some (at (in_body s ∷ fs) wanted)
+by_template_wanted fs s w _ = None
+
+abbrev pub by_template_headed : List Frame → Scope → Head → List Param → Class → Option State
+by_template_headed fs s h ps Class.Equal = Some (at (in_template s h ps ∷ fs) wanted)
+by_template_headed fs s h ps _ = None
+
+abbrev pub by_template_named : List Frame → Scope → Head → Class → Option State
+by_template_named fs s h Class.Open = Some (at fs (in_params s h params_at))
+by_template_named fs s h c = by_template_headed fs s h [] c
+
+abbrev pub by : (len : ℕ) → List Frame → Before → Word → Class → Option State
+by len fs wanted w c = by_wanted len fs w c
+by len fs (named h) w c = by_named len fs h w c
+by len fs (grouped x) w c = by_grouped len fs x w c
+by len fs (called x) w c = by_called fs x w c
+by len fs (regrouped x) w c = by_regrouped fs x w c
+by len fs (names_wanted p) w c = by_names_wanted fs p c
+by len fs (in_names p s) w c = within_part (λ t. at fs (in_names p t)) (named_for fs p) (names_step s w)
+by len fs (in_braces place name s) w c =
+    within_part (λ t. at fs (in_braces place name t)) (λ lists. at fs (primary (select place name lists))) (braces_step s w)
+by len fs (primary t) w c = by_primary fs t w c
+by len fs (window_wanted place t) w c = by_window_wanted len fs place t w c
+by len fs (window_read place t span) w c = by_window_read fs place t span c
+by len fs (windowed place t span) w c = by_window fs place t span w c
+by len fs (offset_wanted place t window) w c = by_offset_wanted len fs place t window w c
+by len fs (offset_back place t window) w c = by_offset_back len fs place t window w c
+by len fs (complete t) w c = go_on fs t w c
+by len fs (operated j) w c = by_operated len fs j w c
+by len fs (compared j) w c = by_compared len fs j w c
+by len fs (matched j kind names) w c = by_matched len fs j kind names w c
+by len fs (many_read j kind names side) w c = by_many len fs j kind names side w c
+by len fs (with_read place) w c = by_with_read len fs place w c
+by len fs (template_wanted s) w c = by_template_wanted fs s w c
+by len fs (template_named s h) w c = by_template_named fs s h c
+by len fs (in_params s h state) w c = within_part (λ t. at fs (in_params s h t)) (λ ps. at fs (template_headed s h ps)) (params_step state w)
+by len fs (template_headed s h ps) w c = by_template_headed fs s h ps c
+
+abbrev pub step : (len : ℕ) → State → Word → Option State
+step len s w = by len s.frames s.before w (class_of w)
+
+-- the expression that stands before the next word, where one may end there
+abbrev pub standing : Before → Option Tree
+standing (named h) = Some (metric h)
+standing (called c) = Some (calling c false)
+standing (regrouped c) = Some (calling c false)
+standing (primary t) = Some t
+standing (windowed place t span) = Some (ranged place t (Some span) None)
+standing (complete t) = Some t
+standing _ = None
+
+abbrev pub end_with : List Frame → Option Tree → Option Tree
+end_with fs None = None
+end_with fs (Some t) = end (reduce 0 fs t)
+
+abbrev pub final_of : State → Option Tree
+final_of s = end_with s.frames (standing s.before)
+
+abbrev pub start : State
+start = at [] wanted

@@ -1,0 +1,11 @@
+//! Expressions.
+#![tactic(auto)]
+
+ghost use Rattle.std.specs.Prelude.{List};
+ghost use Rattle.mql_parse.specs.Grammar.{IsExpr, IsAnyExpr};
+ghost use Rattle.mql_parse.specs.Stub.{Word};
+
+/// A law.
+pub fn law()
+    ensures { (words : List Word) → IsExpr 0 words → IsAnyExpr words }
+{}
