@@ -1,4 +1,4 @@
-use Rattle.std.specs.Prelude.{ℕ, ℤ, Bool, true, false, List, [], ◌∷◌, Option, Some, None}
+use Rattle.std.specs.Prelude.{◌≡◌, ℕ, ℤ, Bool, true, false, List, [], ◌∷◌, Option, Some, None}
 use Rattle.mql_lex.specs.declared.group.Group.{Group}
 use Rattle.mql_lex.specs.declared.group.Matching.{Matching}
 use Rattle.mql_lex.specs.declared.operator.Op.{Op}
@@ -63,20 +63,35 @@ pub record Param : Type 0 where
 pub data NamesState : Type 0 where
   names_at : NamesState
 abbrev pub names_step : NamesState → Word → Option (Progress NamesState (List (List ℕ)))
-names_step s w = None
+names_step s w = names_by (class_of w)
+  where
+    names_by : Class → Option (Progress NamesState (List (List ℕ)))
+    names_by Close = Some (done [])
+    names_by _ = None
 pub data Names : List Word → List Word → List (List ℕ) → Type 0 where
+  no_names_here : {rest : List Word} (w : Word) → class_of w ≡ Close → Names (w ∷ rest) rest []
 
 pub data ParamsState : Type 0 where
   params_at : ParamsState
 abbrev pub params_step : ParamsState → Word → Option (Progress ParamsState (List Param))
-params_step s w = None
+params_step s w = params_by (class_of w)
+  where
+    params_by : Class → Option (Progress ParamsState (List Param))
+    params_by Close = Some (done [])
+    params_by _ = None
 pub data Params : List Word → List Word → List Param → Type 0 where
+  no_params_here : {rest : List Word} (w : Word) → class_of w ≡ Close → Params (w ∷ rest) rest []
 
 pub data BracesState : Type 0 where
   braces_at : BracesState
 abbrev pub braces_step : BracesState → Word → Option (Progress BracesState (List (List Item)))
-braces_step s w = None
+braces_step s w = braces_by (class_of w)
+  where
+    braces_by : Class → Option (Progress BracesState (List (List Item)))
+    braces_by Close = Some (done [])
+    braces_by _ = None
 pub data Braces : List Word → List Word → List (List Item) → Type 0 where
+  no_braces_here : {rest : List Word} (w : Word) → class_of w ≡ Close → Braces (w ∷ rest) rest []
 
 mutual
   pub data Tree : Type 0 where
