@@ -1,0 +1,63 @@
+//! Names in parentheses, as those of `by (job, instance)`.
+
+ghost use Rattle.std.specs.Prelude.{◌≡◌, ◌≤◌, ◌+◌, length, IfOk};
+ghost use Rattle.mql_lex.specs.Tokens.{StandsIn};
+ghost use Rattle.mql_lists.specs.Words.{word_of};
+ghost use Rattle.mql_lists.specs.Machines.{names_start, names_step};
+
+use crate::progress::Progress;
+use crate::role::{Role, role_of_token};
+use crate::word::name_text;
+use mql_lex::Token;
+use std::alloc::{AllocError, Global};
+use vm_base::{List, Text};
+
+/// Reads the names of labels behind `(`, up to `)`. They are parted by commas, and one may stand
+/// behind the last. A reserved word may be a name here. (PromQL, "Aggregation operators")
+#[derive(Debug, Drop)]
+pub struct NamesReader {
+    /// The names that were read.
+    pub names: List<Text>,
+    /// Whether a name may come next, and no comma.
+    pub wanted: bool,
+}
+
+impl NamesReader {
+    /// Behind `(`. It takes no memory.
+    pub fn new(alloc: Global) -> NamesReader
+        ensures { result ≡ names_start }
+    {
+        NamesReader {
+            names: List::new(alloc),
+            wanted: true,
+        }
+    }
+
+    /// Takes one more token of the text. None is said of a token with which no names go on.
+    pub fn step(
+        self,
+        alloc: Global,
+        text: &str,
+        token: Token,
+    ) -> Result<Option<Progress<NamesReader, List<Text>>>, AllocError>
+        requires { StandsIn text.now token }
+        ensures { IfOk result (λ progress. progress ≡ names_step self (word_of text.now token)) }
+    {
+        let NamesReader { mut names, wanted } = self;
+        match (wanted, role_of_token(text, token)) {
+            (_, Role::EndRound) => Ok(Some(Progress::Done(names))),
+            (true, Role::Free | Role::Either | Role::Reserved) => {
+                names.push(name_text(alloc, text, token)?)?;
+                Ok(Some(Progress::Goes(NamesReader {
+                    names,
+                    wanted: false,
+                })))
+            }
+            (false, Role::Next) => Ok(Some(Progress::Goes(NamesReader {
+                names,
+                wanted: true,
+            }))),
+            _ => Ok(None),
+        }
+    }
+}
