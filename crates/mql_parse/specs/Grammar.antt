@@ -11,11 +11,18 @@ use Rattle.mql_lex.specs.declared.group.MatchKind.TheVariants.{All, On, Ignoring
 use Rattle.mql_lex.specs.declared.group.Matching.{Matching}
 use Rattle.mql_lex.specs.declared.operator.Op.{Op}
 use Rattle.mql_lex.specs.declared.span.Span.{Span}
-use Rattle.mql_parse.specs.Stub.{Class, Word, class_of, Item, Param, Names, Params, Braces, Tree, number, string, select, ranged, call, binary, negate, with_templates, trees_of, TreeTemplate, templates_listed, string_value}
+use Rattle.mql_lists.specs.declared.class.Class.{Class}
+use Rattle.mql_lists.specs.Words.{Word}
+use Rattle.mql_lists.specs.Classes.{class_of_word}
+use Rattle.mql_expr.specs.declared.item.Item.{Item}
+use Rattle.mql_expr.specs.declared.expr.Param.{Param}
+use Rattle.mql_lists.specs.Grammar.{Names, Params, Braces}
+use Rattle.mql_expr.specs.Tree.{Tree, number, string, select, ranged, call, binary, negate, with_templates, trees_of, TreeTemplate, templates_listed}
+use Rattle.mql_lists.specs.Values.{value_of}
 use Rattle.mql_parse.specs.Values.{number_of, or_zero, length_of, is_short, ahead, back}
 
 abbrev pub Is : Class → Word → Type 0
-Is class w = class_of w ≡ class
+Is class w = class_of_word w ≡ class
 
 -- ---- levels and limits
 
@@ -64,19 +71,14 @@ LengthFits len w = w.at < len → is_short (length_of w.text) ≡ true
 
 -- ---- groups, and what an operator may have behind it
 
--- `by` or `without`
-abbrev pub group_word : Bool → Class
-group_word true = Class.By
-group_word false = Class.Without
-
 -- names in parentheses
 pub data ListedNames : List Word → List Word → List (List ℕ) → Type 0 where
-  in_parens : {text rest : List Word} {names : List (List ℕ)} (w : Word) → Is Class.Open w → Names text rest names → ListedNames (w ∷ text) rest names
+  in_parens : {text rest : List Word} {names : List (List ℕ)} (w : Word) → Is Class.OpenRound w → Names text rest names → ListedNames (w ∷ text) rest names
 
 -- group = ("by" | "without") "(" names ")"
 pub data GroupIfAny : List Word → List Word → Option Group → Type 0 where
   no_group : {text : List Word} → GroupIfAny text text None
-  a_group : {text rest : List Word} {names : List (List ℕ)} (w : Word) (by : Bool) → Is (group_word by) w → ListedNames text rest names
+  a_group : {text rest : List Word} {names : List (List ℕ)} (w : Word) (by : Bool) → Is (Class.Grouping by) w → ListedNames text rest names
       → GroupIfAny (w ∷ text) rest (Some (record { by = by; names = names }))
 
 -- ["keep_metric_names"]
@@ -89,28 +91,19 @@ pub data TruthIfAny (op : Op) : List Word → List Word → Bool → Type 0 wher
   no_truth : {text : List Word} → TruthIfAny op text text false
   a_truth : {text : List Word} (w : Word) → Is Class.Truth w → is_comparison op ≡ true → TruthIfAny op (w ∷ text) text true
 
--- `on` or `ignoring`, `group_left` or `group_right`
-pub data MatchWord : MatchKind → Word → Type 0 where
-  an_on : (w : Word) → Is Class.On w → MatchWord On w
-  an_ignoring : (w : Word) → Is Class.Ignoring w → MatchWord Ignoring w
-
-pub data ManyWord : Many → Word → Type 0 where
-  a_left : (w : Word) → Is Class.GroupLeft w → ManyWord Left w
-  a_right : (w : Word) → Is Class.GroupRight w → ManyWord Right w
-
 abbrev pub begins_open : List Word → Bool
 begins_open [] = false
-begins_open (w ∷ more) = is_open (class_of w)
+begins_open (w ∷ more) = is_open (class_of_word w)
   where
     is_open : Class → Bool
-    is_open Class.Open = true
+    is_open Class.OpenRound = true
     is_open _ = false
 
 -- [ ("group_left" | "group_right") [ "(" names ")" ] ], where `(` always opens the names
 pub data ManyIfAny : List Word → List Word → Many → List (List ℕ) → Type 0 where
   no_many : {text : List Word} → ManyIfAny text text One []
-  a_many : {text : List Word} {many : Many} (w : Word) → ManyWord many w → begins_open text ≡ false → ManyIfAny (w ∷ text) text many []
-  many_names : {text rest : List Word} {many : Many} {names : List (List ℕ)} (w : Word) → ManyWord many w → ListedNames text rest names
+  a_many : {text : List Word} {many : Many} (w : Word) → Is (Class.Joining many) w → begins_open text ≡ false → ManyIfAny (w ∷ text) text many []
+  many_names : {text rest : List Word} {many : Many} {names : List (List ℕ)} (w : Word) → Is (Class.Joining many) w → ListedNames text rest names
       → ManyIfAny (w ∷ text) rest many names
 
 abbrev pub matching : MatchKind → List (List ℕ) → Many → List (List ℕ) → Matching
@@ -119,16 +112,16 @@ matching kind names many extra = record { kind = kind; names = names; many = man
 -- mods
 pub data Mods : List Word → List Word → Matching → Type 0 where
   no_mods : {text : List Word} → Mods text text (matching All [] One [])
-  some_mods : {text mid rest : List Word} {kind : MatchKind} {names extra : List (List ℕ)} {many : Many} (w : Word) → MatchWord kind w → ListedNames text mid names
+  some_mods : {text mid rest : List Word} {kind : MatchKind} {names extra : List (List ℕ)} {many : Many} (w : Word) → Is (Class.Pairing kind) w → ListedNames text mid names
       → ManyIfAny mid rest many extra → Mods (w ∷ text) rest (matching kind names many extra)
 
 -- ---- windows and offsets
 
 -- "offset" ["-"] duration, with the place of the word
 pub data Offset (len : ℕ) : ℕ → List Word → List Word → Span → Type 0 where
-  an_offset : {text : List Word} (w d : Word) → Is Class.Offset w → Is Class.Duration d → LengthFits len d
+  an_offset : {text : List Word} (w d : Word) → Is Class.Offset w → Is Class.Time d → LengthFits len d
       → Offset len w.at (w ∷ d ∷ text) text (ahead (length_of d.text))
-  offset_back : {text : List Word} (w m d : Word) → Is Class.Offset w → Is (Class.Operator Op.Sub) m → Is Class.Duration d → LengthFits len d
+  offset_back : {text : List Word} (w m d : Word) → Is Class.Offset w → Is (Class.Operator Op.Sub) m → Is Class.Time d → LengthFits len d
       → Offset len w.at (w ∷ m ∷ d ∷ text) text (back (length_of d.text))
 
 pub data OffsetIfAny (len : ℕ) : List Word → List Word → Option Span → Type 0 where
@@ -137,8 +130,8 @@ pub data OffsetIfAny (len : ℕ) : List Word → List Word → Option Span → T
 
 -- [ "[" duration "]" ] [ "offset" ["-"] duration ], one of them at least, with the place of the first word
 pub data Postfix (len : ℕ) : ℕ → List Word → List Word → (window offset : Option Span) → Type 0 where
-  windowed : {text rest : List Word} {offset : Option Span} (w d e : Word) → Is Class.OpenBracket w → Is Class.Duration d → LengthFits len d
-      → Is Class.CloseBracket e → OffsetIfAny len text rest offset
+  windowed : {text rest : List Word} {offset : Option Span} (w d e : Word) → Is Class.OpenSquare w → Is Class.Time d → LengthFits len d
+      → Is Class.CloseSquare e → OffsetIfAny len text rest offset
       → Postfix len w.at (w ∷ d ∷ e ∷ text) rest (Some (ahead (length_of d.text))) offset
   not_windowed : {at : ℕ} {text rest : List Word} {span : Span} → Offset len at text rest span → Postfix len at text rest None (Some span)
 
@@ -147,7 +140,7 @@ pub data Postfix (len : ℕ) : ℕ → List Word → List Word → (window offse
 -- [ "(" [ name { "," name } ] ")" ]
 pub data ParamsIfAny : List Word → List Word → List Param → Type 0 where
   no_params : {text : List Word} → ParamsIfAny text text []
-  some_params : {text rest : List Word} {params : List Param} (w : Word) → Is Class.Open w → Params text rest params → ParamsIfAny (w ∷ text) rest params
+  some_params : {text rest : List Word} {params : List Param} (w : Word) → Is Class.OpenRound w → Params text rest params → ParamsIfAny (w ∷ text) rest params
 
 -- the levels of `unary` and of `postfix`
 abbrev pub unary : ℕ
@@ -172,25 +165,25 @@ mutual
     a_postfix : {n at : ℕ} {text mid rest : List Word} {t : Tree} {window offset : Option Span} → Primary len n text mid t
         → Postfix len at mid rest window offset → Reads len n postfix false text rest (ranged at t window offset)
     -- with = "with" "(" [ template { "," template } [","] ] ")" expr
-    a_with : {n : ℕ} {o : Bool} {text body rest : List Word} {ts : List TreeTemplate} {t : Tree} (w p e : Word) → Is Class.With w → Is Class.Open p
-        → MayOpen len n p.at → Templates len (suc n) text (e ∷ body) ts → Is Class.Close e → Reads len n 0 o body rest t
+    a_with : {n : ℕ} {o : Bool} {text body rest : List Word} {ts : List TreeTemplate} {t : Tree} (w p e : Word) → Is Class.With w → Is Class.OpenRound p
+        → MayOpen len n p.at → Templates len (suc n) text (e ∷ body) ts → Is Class.CloseRound e → Reads len n 0 o body rest t
         → Reads len n postfix true (w ∷ p ∷ text) rest (with_templates w.at (templates_listed ts) t)
 
   pub data Primary (len : ℕ) : (opened : ℕ) → List Word → List Word → Tree → Type 0 where
-    a_number : {n : ℕ} {rest : List Word} (w : Word) → Is Class.Number w → NumberFits len w → Primary len n (w ∷ rest) rest (number w.at (or_zero (number_of w.text)))
-    a_string : {n : ℕ} {rest : List Word} (w : Word) → Is Class.Str w → Primary len n (w ∷ rest) rest (string w.at (string_value w.text))
-    in_brackets : {n : ℕ} {o : Bool} {text rest : List Word} {t : Tree} (w e : Word) → Is Class.Open w → MayOpen len n w.at
-        → Reads len (suc n) 0 o text (e ∷ rest) t → Is Class.Close e → Primary len n (w ∷ text) rest t
+    a_number : {n : ℕ} {rest : List Word} (w : Word) → Is Class.Numeral w → NumberFits len w → Primary len n (w ∷ rest) rest (number w.at (or_zero (number_of w.text)))
+    a_string : {n : ℕ} {rest : List Word} (w : Word) → Is Class.Quoted w → Primary len n (w ∷ rest) rest (string w.at (value_of w.text))
+    in_brackets : {n : ℕ} {o : Bool} {text rest : List Word} {t : Tree} (w e : Word) → Is Class.OpenRound w → MayOpen len n w.at
+        → Reads len (suc n) 0 o text (e ∷ rest) t → Is Class.CloseRound e → Primary len n (w ∷ text) rest t
     -- call = name [group] "(" [ expr { "," expr } [","] ] ")" [group] ["keep_metric_names"]
-    a_call : {n : ℕ} {text inner behind last rest : List Word} {args : List Tree} {before after : Option Group} {keep : Bool} (w p e : Word) → Is Class.Name w
-        → GroupIfAny text (p ∷ inner) before → Is Class.Open p → MayOpen len n p.at → Args len (suc n) inner (e ∷ behind) args → Is Class.Close e
+    a_call : {n : ℕ} {text inner behind last rest : List Word} {args : List Tree} {before after : Option Group} {keep : Bool} (w p e : Word) → Is Class.Identifier w
+        → GroupIfAny text (p ∷ inner) before → Is Class.OpenRound p → MayOpen len n p.at → Args len (suc n) inner (e ∷ behind) args → Is Class.CloseRound e
         → GroupIfAny behind last after → KeepIfAny last rest keep
         → Primary len n (w ∷ text) rest (call w.at w.text (trees_of args) before after keep)
     -- selector = name [ "{" lists "}" ] | "{" lists "}"
-    a_metric : {n : ℕ} {rest : List Word} (w : Word) → Is Class.Name w → Primary len n (w ∷ rest) rest (select w.at (Some w.text) [])
-    a_selector : {n : ℕ} {text rest : List Word} {lists : List (List Item)} (w b : Word) → Is Class.Name w → Is Class.OpenBrace b → Braces text rest lists
+    a_metric : {n : ℕ} {rest : List Word} (w : Word) → Is Class.Identifier w → Primary len n (w ∷ rest) rest (select w.at (Some w.text) [])
+    a_selector : {n : ℕ} {text rest : List Word} {lists : List (List Item)} (w b : Word) → Is Class.Identifier w → Is Class.OpenCurly b → Braces text rest lists
         → Primary len n (w ∷ b ∷ text) rest (select w.at (Some w.text) lists)
-    a_nameless : {n : ℕ} {text rest : List Word} {lists : List (List Item)} (w : Word) → Is Class.OpenBrace w → Braces text rest lists
+    a_nameless : {n : ℕ} {text rest : List Word} {lists : List (List Item)} (w : Word) → Is Class.OpenCurly w → Braces text rest lists
         → Primary len n (w ∷ text) rest (select w.at None lists)
 
   -- [ expr { "," expr } [","] ]
@@ -202,8 +195,8 @@ mutual
 
   -- template = name [ "(" [ name { "," name } ] ")" ] "=" expr
   pub data Template (len : ℕ) : (opened : ℕ) → List Word → List Word → TreeTemplate → Type 0 where
-    a_template : {n : ℕ} {o : Bool} {text mid rest : List Word} {params : List Param} {t : Tree} (w e : Word) → Is Class.Name w
-        → ParamsIfAny text (e ∷ mid) params → Is Class.Equal e → Reads len n 0 o mid rest t
+    a_template : {n : ℕ} {o : Bool} {text mid rest : List Word} {params : List Param} {t : Tree} (w e : Word) → Is Class.Identifier w
+        → ParamsIfAny text (e ∷ mid) params → Is Class.Assign e → Reads len n 0 o mid rest t
         → Template len n (w ∷ text) rest (record { at = w.at; name = w.text; params = params; body = t })
 
   -- [ template { "," template } [","] ]

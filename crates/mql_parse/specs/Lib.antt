@@ -1,4 +1,3 @@
 pub mod Grammar
 pub mod Machine
-pub mod Stub
 pub mod Values

@@ -10,7 +10,19 @@ use Rattle.mql_lex.specs.declared.group.MatchKind.TheVariants.{All, On, Ignoring
 use Rattle.mql_lex.specs.declared.group.Matching.{Matching}
 use Rattle.mql_lex.specs.declared.operator.Op.{Op}
 use Rattle.mql_lex.specs.declared.span.Span.{Span}
-use Rattle.mql_parse.specs.Stub.{Class, Word, class_of, Item, Param, Progress, goes, done, NamesState, names_at, names_step, ParamsState, params_at, params_step, BracesState, braces_at, braces_step, Tree, number, string, select, ranged, call, binary, negate, with_templates, trees_of, TreeTemplate, templates_listed, string_value}
+use Rattle.mql_lists.specs.declared.class.Class.{Class}
+use Rattle.mql_lists.specs.Words.{Word}
+use Rattle.mql_lists.specs.Classes.{class_of_word}
+use Rattle.mql_expr.specs.declared.item.Item.{Item}
+use Rattle.mql_expr.specs.declared.expr.Param.{Param}
+use Rattle.mql_lists.specs.declared.progress.Progress.{Progress}
+use Rattle.mql_lists.specs.declared.progress.Progress.TheVariants.{Goes, Done}
+use Rattle.mql_lists.specs.declared.names.NamesReader.{NamesReader}
+use Rattle.mql_lists.specs.Machines.{names_start, names_step, params_start, params_step, braces_start, braces_step}
+use Rattle.mql_lists.specs.declared.params.ParamsReader.{ParamsReader}
+use Rattle.mql_lists.specs.declared.braces.BracesReader.{BracesReader}
+use Rattle.mql_expr.specs.Tree.{Tree, number, string, select, ranged, call, binary, negate, with_templates, trees_of, TreeTemplate, templates_listed}
+use Rattle.mql_lists.specs.Values.{value_of}
 use Rattle.mql_parse.specs.Values.{number_of, or_zero, length_of, is_short, ahead, back}
 use Rattle.mql_parse.specs.Grammar.{level, is_comparison, deepest, matching}
 
@@ -68,9 +80,9 @@ pub data Before : Type 0 where
   regrouped : Call → Before
   -- a word that wants names in parentheses, and among these names
   names_wanted : Purpose → Before
-  in_names : Purpose → NamesState → Before
+  in_names : Purpose → NamesReader → Before
   -- in the braces of a selector
-  in_braces : (at : ℕ) → Option (List ℕ) → BracesState → Before
+  in_braces : (at : ℕ) → Option (List ℕ) → BracesReader → Before
   -- an expression that may take a window or an offset, and the parts of these
   primary : Tree → Before
   window_wanted : (at : ℕ) → Tree → Before
@@ -89,7 +101,7 @@ pub data Before : Type 0 where
   with_read : (at : ℕ) → Before
   template_wanted : Scope → Before
   template_named : Scope → Head → Before
-  in_params : Scope → Head → ParamsState → Before
+  in_params : Scope → Head → ParamsReader → Before
   template_headed : Scope → Head → List Param → Before
 
 pub record State : Type 0 where
@@ -194,7 +206,7 @@ end r = end_frame r.frames r.tree
 
 abbrev pub go_on : List Frame → Tree → Word → Class → Option State
 go_on fs t w (Class.Operator op) = Some (operate (reduce (level op) fs t) w op)
-go_on fs t w Class.Close = close (reduce 0 fs t)
+go_on fs t w Class.CloseRound = close (reduce 0 fs t)
 go_on fs t w Class.Comma = continue (reduce 0 fs t)
 go_on fs t w _ = None
 
@@ -203,7 +215,7 @@ by_window fs place t span w Class.Offset = Some (at fs (offset_wanted place t (S
 by_window fs place t span w c = go_on fs (ranged place t (Some span) None) w c
 
 abbrev pub by_primary : List Frame → Tree → Word → Class → Option State
-by_primary fs t w Class.OpenBracket = Some (at fs (window_wanted w.at t))
+by_primary fs t w Class.OpenSquare = Some (at fs (window_wanted w.at t))
 by_primary fs t w Class.Offset = Some (at fs (offset_wanted w.at t None))
 by_primary fs t w c = go_on fs t w c
 
@@ -212,8 +224,7 @@ by_regrouped fs c w Class.Keep = Some (at fs (primary (calling c true)))
 by_regrouped fs c w class = by_primary fs (calling c false) w class
 
 abbrev pub by_called : List Frame → Call → Word → Class → Option State
-by_called fs c w Class.By = Some (at fs (names_wanted (after_args c true)))
-by_called fs c w Class.Without = Some (at fs (names_wanted (after_args c false)))
+by_called fs c w (Class.Grouping by) = Some (at fs (names_wanted (after_args c by)))
 by_called fs c w class = by_regrouped fs c w class
 
 abbrev pub call_of : Head → Call
@@ -223,10 +234,9 @@ abbrev pub metric : Head → Tree
 metric h = select h.at (Some h.name) []
 
 abbrev pub by_named : (len : ℕ) → List Frame → Head → Word → Class → Option State
-by_named len fs h w Class.Open = opening len w.at fs (at (in_args (call_of h) ∷ fs) wanted)
-by_named len fs h w Class.OpenBrace = Some (at fs (in_braces h.at (Some h.name) braces_at))
-by_named len fs h w Class.By = Some (at fs (names_wanted (before_args (call_of h) true)))
-by_named len fs h w Class.Without = Some (at fs (names_wanted (before_args (call_of h) false)))
+by_named len fs h w Class.OpenRound = opening len w.at fs (at (in_args (call_of h) ∷ fs) wanted)
+by_named len fs h w Class.OpenCurly = Some (at fs (in_braces h.at (Some h.name) braces_start))
+by_named len fs h w (Class.Grouping by) = Some (at fs (names_wanted (before_args (call_of h) by)))
 by_named len fs h w c = by_primary fs (metric h) w c
 
 -- behind the `)` of arguments, where none stands before it
@@ -238,13 +248,13 @@ abbrev pub head_of : Word → Head
 head_of w = record { at = w.at; name = w.text }
 
 abbrev pub by_wanted : (len : ℕ) → List Frame → Word → Class → Option State
-by_wanted len fs w Class.Number =
+by_wanted len fs w Class.Numeral =
     only (fits (nat_lt w.at len) (is_some (number_of w.text))) (at fs (primary (number w.at (or_zero (number_of w.text)))))
-by_wanted len fs w Class.Str = Some (at fs (primary (string w.at (string_value w.text))))
-by_wanted len fs w Class.Name = Some (at fs (named (head_of w)))
-by_wanted len fs w Class.OpenBrace = Some (at fs (in_braces w.at None braces_at))
-by_wanted len fs w Class.Open = opening len w.at fs (at (in_parens ∷ fs) wanted)
-by_wanted len fs w Class.Close = no_more fs
+by_wanted len fs w Class.Quoted = Some (at fs (primary (string w.at (value_of w.text))))
+by_wanted len fs w Class.Identifier = Some (at fs (named (head_of w)))
+by_wanted len fs w Class.OpenCurly = Some (at fs (in_braces w.at None braces_start))
+by_wanted len fs w Class.OpenRound = opening len w.at fs (at (in_parens ∷ fs) wanted)
+by_wanted len fs w Class.CloseRound = no_more fs
 by_wanted len fs w Class.With = Some (at fs (with_read w.at))
 by_wanted len fs w (Class.Operator Op.Sub) = opening len w.at fs (at (in_minus w.at ∷ fs) wanted)
 by_wanted len fs w (Class.Operator Op.Add) = opening len w.at fs (at (in_plus ∷ fs) wanted)
@@ -255,20 +265,20 @@ abbrev pub measured : (len : ℕ) → Word → State → Option State
 measured len w s = only (fits (nat_lt w.at len) (is_short (length_of w.text))) s
 
 abbrev pub by_window_wanted : (len : ℕ) → List Frame → (place : ℕ) → Tree → Word → Class → Option State
-by_window_wanted len fs place t w Class.Duration = measured len w (at fs (window_read place t (ahead (length_of w.text))))
+by_window_wanted len fs place t w Class.Time = measured len w (at fs (window_read place t (ahead (length_of w.text))))
 by_window_wanted len fs place t w _ = None
 
 abbrev pub by_window_read : List Frame → (place : ℕ) → Tree → Span → Class → Option State
-by_window_read fs place t span Class.CloseBracket = Some (at fs (windowed place t span))
+by_window_read fs place t span Class.CloseSquare = Some (at fs (windowed place t span))
 by_window_read fs place t span _ = None
 
 abbrev pub by_offset_wanted : (len : ℕ) → List Frame → (place : ℕ) → Tree → Option Span → Word → Class → Option State
-by_offset_wanted len fs place t window w Class.Duration = measured len w (at fs (complete (ranged place t window (Some (ahead (length_of w.text))))))
+by_offset_wanted len fs place t window w Class.Time = measured len w (at fs (complete (ranged place t window (Some (ahead (length_of w.text))))))
 by_offset_wanted len fs place t window w (Class.Operator Op.Sub) = Some (at fs (offset_back place t window))
 by_offset_wanted len fs place t window w _ = None
 
 abbrev pub by_offset_back : (len : ℕ) → List Frame → (place : ℕ) → Tree → Option Span → Word → Class → Option State
-by_offset_back len fs place t window w Class.Duration = measured len w (at fs (complete (ranged place t window (Some (back (length_of w.text))))))
+by_offset_back len fs place t window w Class.Time = measured len w (at fs (complete (ranged place t window (Some (back (length_of w.text))))))
 by_offset_back len fs place t window w _ = None
 
 -- behind an operator with all that belongs to it
@@ -276,17 +286,15 @@ abbrev pub joining : List Frame → Joint → Matching → List Frame
 joining fs j m = in_operator j m ∷ fs
 
 abbrev pub by_many : (len : ℕ) → List Frame → Joint → MatchKind → List (List ℕ) → Many → Word → Class → Option State
-by_many len fs j kind names side w Class.Open = Some (at fs (in_names (taken_over j kind names side) names_at))
+by_many len fs j kind names side w Class.OpenRound = Some (at fs (in_names (taken_over j kind names side) names_start))
 by_many len fs j kind names side w c = by_wanted len (joining fs j (matching kind names side [])) w c
 
 abbrev pub by_matched : (len : ℕ) → List Frame → Joint → MatchKind → List (List ℕ) → Word → Class → Option State
-by_matched len fs j kind names w Class.GroupLeft = Some (at fs (many_read j kind names Left))
-by_matched len fs j kind names w Class.GroupRight = Some (at fs (many_read j kind names Right))
+by_matched len fs j kind names w (Class.Joining side) = Some (at fs (many_read j kind names side))
 by_matched len fs j kind names w c = by_wanted len (joining fs j (matching kind names One [])) w c
 
 abbrev pub by_compared : (len : ℕ) → List Frame → Joint → Word → Class → Option State
-by_compared len fs j w Class.On = Some (at fs (names_wanted (matched_by j On)))
-by_compared len fs j w Class.Ignoring = Some (at fs (names_wanted (matched_by j Ignoring)))
+by_compared len fs j w (Class.Pairing kind) = Some (at fs (names_wanted (matched_by j kind)))
 by_compared len fs j w c = by_wanted len (joining fs j (matching All [] One [])) w c
 
 abbrev pub true_joint : Joint → Joint
@@ -297,7 +305,7 @@ by_operated len fs j w Class.Truth = only (is_comparison j.op) (at fs (compared 
 by_operated len fs j w c = by_compared len fs j w c
 
 abbrev pub by_names_wanted : List Frame → Purpose → Class → Option State
-by_names_wanted fs p Class.Open = Some (at fs (in_names p names_at))
+by_names_wanted fs p Class.OpenRound = Some (at fs (in_names p names_start))
 by_names_wanted fs p _ = None
 
 -- behind names in parentheses
@@ -310,28 +318,28 @@ named_for fs (taken_over j kind by_names side) names = at (joining fs j (matchin
 -- one step of the machine of a part, whose state stands in one of this machine
 abbrev pub within_part : {S V : Type 0} → (S → State) → (V → State) → Option (Progress S V) → Option State
 within_part on off None = None
-within_part on off (Some (goes s)) = Some (on s)
-within_part on off (Some (done v)) = Some (off v)
+within_part on off (Some (Goes s)) = Some (on s)
+within_part on off (Some (Done v)) = Some (off v)
 
 abbrev pub by_grouped : (len : ℕ) → List Frame → Call → Word → Class → Option State
-by_grouped len fs c w Class.Open = opening len w.at fs (at (in_args c ∷ fs) wanted)
+by_grouped len fs c w Class.OpenRound = opening len w.at fs (at (in_args c ∷ fs) wanted)
 by_grouped len fs c w _ = None
 
 abbrev pub by_with_read : (len : ℕ) → List Frame → (place : ℕ) → Word → Class → Option State
-by_with_read len fs place w Class.Open = opening len w.at fs (at fs (template_wanted (record { at = place; templates = [] })))
+by_with_read len fs place w Class.OpenRound = opening len w.at fs (at fs (template_wanted (record { at = place; templates = [] })))
 by_with_read len fs place w _ = None
 
 abbrev pub by_template_wanted : List Frame → Scope → Word → Class → Option State
-by_template_wanted fs s w Class.Name = Some (at fs (template_named s (head_of w)))
-by_template_wanted fs s w Class.Close = Some (at (in_body s ∷ fs) wanted)
+by_template_wanted fs s w Class.Identifier = Some (at fs (template_named s (head_of w)))
+by_template_wanted fs s w Class.CloseRound = Some (at (in_body s ∷ fs) wanted)
 by_template_wanted fs s w _ = None
 
 abbrev pub by_template_headed : List Frame → Scope → Head → List Param → Class → Option State
-by_template_headed fs s h ps Class.Equal = Some (at (in_template s h ps ∷ fs) wanted)
+by_template_headed fs s h ps Class.Assign = Some (at (in_template s h ps ∷ fs) wanted)
 by_template_headed fs s h ps _ = None
 
 abbrev pub by_template_named : List Frame → Scope → Head → Class → Option State
-by_template_named fs s h Class.Open = Some (at fs (in_params s h params_at))
+by_template_named fs s h Class.OpenRound = Some (at fs (in_params s h params_start))
 by_template_named fs s h c = by_template_headed fs s h [] c
 
 abbrev pub by : (len : ℕ) → List Frame → Before → Word → Class → Option State
@@ -362,7 +370,7 @@ by len fs (in_params s h state) w c = within_part (λ t. at fs (in_params s h t)
 by len fs (template_headed s h ps) w c = by_template_headed fs s h ps c
 
 abbrev pub step : (len : ℕ) → State → Word → Option State
-step len s w = by len s.frames s.before w (class_of w)
+step len s w = by len s.frames s.before w (class_of_word w)
 
 -- the expression that stands before the next word, where one may end there
 abbrev pub standing : Before → Option Tree
