@@ -1,3 +1,5 @@
-mod Parts
+mod FromRead
+mod Held
 mod Moves
+mod Parts
 mod ToRead

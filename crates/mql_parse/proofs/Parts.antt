@@ -15,3 +15,12 @@ params_read x = ?
 
 pub braces_read : {text rest : List Word} {v : List (List Item)} → Braces text rest v → leads braces_step braces_start text ≡ Some (v, rest)
 braces_read x = ?
+
+pub names_from : {text rest : List Word} {v : List (List ℕ)} → leads names_step names_start text ≡ Some (v, rest) → Names text rest v
+names_from x = ?
+
+pub params_from : {text rest : List Word} {v : List Param} → leads params_step params_start text ≡ Some (v, rest) → Params text rest v
+params_from x = ?
+
+pub braces_from : {text rest : List Word} {v : List (List Item)} → leads braces_step braces_start text ≡ Some (v, rest) → Braces text rest v
+braces_from x = ?

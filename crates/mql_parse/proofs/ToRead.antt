@@ -311,16 +311,16 @@ with_args c ts = record { at = c.at; name = c.name; args = c.args ++ ts; before 
 abbrev pub with_more : Scope → List TreeTemplate → Scope
 with_more s ts = record { at = s.at; templates = s.templates ++ ts }
 
-no_more_args : (c : Call) → with_args c [] ≡ c
+pub no_more_args : (c : Call) → with_args c [] ≡ c
 no_more_args c = ap (λ ts. record { at = c.at; name = c.name; args = ts; before = c.before; after = c.after }) (append-nil c.args)
 
-one_more_arg : (c : Call) (t : Tree) (ts : List Tree) → with_args (one_more c t) ts ≡ with_args c (t ∷ ts)
+pub one_more_arg : (c : Call) (t : Tree) (ts : List Tree) → with_args (one_more c t) ts ≡ with_args c (t ∷ ts)
 one_more_arg c t ts = ap (λ us. record { at = c.at; name = c.name; args = us; before = c.before; after = c.after }) (append_assoc c.args (t ∷ []) ts)
 
-no_more_templates : (s : Scope) → with_more s [] ≡ s
+pub no_more_templates : (s : Scope) → with_more s [] ≡ s
 no_more_templates s = ap (λ ts. record { at = s.at; templates = ts }) (append-nil s.templates)
 
-one_more_template : (s : Scope) (t : TreeTemplate) (ts : List TreeTemplate) → with_more (with_more s (t ∷ [])) ts ≡ with_more s (t ∷ ts)
+pub one_more_template : (s : Scope) (t : TreeTemplate) (ts : List TreeTemplate) → with_more (with_more s (t ∷ [])) ts ≡ with_more s (t ∷ ts)
 one_more_template s t ts = ap (λ us. record { at = s.at; templates = us }) (append_assoc s.templates (t ∷ []) ts)
 
 -- what later words see of a state behind a template
