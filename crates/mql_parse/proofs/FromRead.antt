@@ -1,5 +1,5 @@
 -- What the machine reads is in the grammar.
-use Rattle.std.specs.Prelude.{◌≡◌, ℕ, zero, suc, ◌<◌, ◌≤◌, ◌==◌, nat_lt, nat_le, Bool, true, false, List, [], ◌∷◌, ◌++◌, Option, Some, None, is_some, option_and_then, if◌then◌else◌}
+use Rattle.std.specs.Prelude.{◌≡◌, ℕ, zero, suc, ◌<◌, ◌≤◌, ◌==◌, nat_lt, nat_le, Bool, true, false, List, [], ◌∷◌, ◌++◌, Option, Some, None, is_some, Result, Ok, Err, option_and_then, if◌then◌else◌}
 use Rattle.std.proofs.Common.{refl, ap, sym, subst, ◌∙◌, arith, ⊎_elim}
 use Rattle.std.proofs.lemmas.Bool.{cases_lt, cases_eq}
 use Rattle.std.proofs.lemmas.Bool.Decides.{nat_tests}
@@ -25,7 +25,9 @@ use Rattle.mql_lists.specs.declared.progress.Progress.{Progress}
 use Rattle.mql_lists.specs.declared.progress.Progress.TheVariants.{Goes, Done}
 use Rattle.mql_parse.specs.Values.{number_of, or_zero, length_of, is_short, ahead, back}
 use Rattle.mql_parse.specs.Grammar.{Is, level, is_comparison, deepest, MayOpen, NumberFits, LengthFits, ListedNames, in_parens as parens, GroupIfAny, no_group, a_group, KeepIfAny, no_keep, a_keep, TruthIfAny, no_truth, a_truth, begins_open, ManyIfAny, no_many, a_many, many_names, matching, Mods, no_mods, some_mods, Offset, an_offset, offset_back as a_back, OffsetIfAny, no_offset, some_offset, Postfix, windowed as a_window, not_windowed, ParamsIfAny, no_params, some_params, unary, postfix, Reads, looser, an_operator, a_minus, a_plus, a_primary, a_postfix, a_with, Primary, a_number, a_string, in_brackets, a_call, a_metric, a_selector, a_nameless, Args, no_args, last_arg, next_arg, Template, a_template, Templates, no_template, last_template, more_templates, Spells}
-use Rattle.mql_parse.specs.Machine.{State, at, Frame, in_parens, in_minus, in_plus, in_operator, in_args, in_template, in_body, Before, step, by, final_of, standing, end_with, end_frame, close_frame, continue_frame, opened, opening, only, fits, reduce, Reduced, operate, close, continue, end, go_on, primary, complete, windowed, window_wanted, window_read, offset_wanted, offset_back, named, called, regrouped, grouped, names_wanted, in_names, in_braces, in_params, many_read, matched, with_read, template_wanted, template_named, template_headed, Purpose, before_args, after_args, matched_by, taken_over, named_for, Call, Head, Joint, Scope, calling, call_of, head_of, metric, joined, wanted, operated, compared, true_joint, no_more, within_part, by_wanted, by_named, by_called, by_regrouped, by_primary, by_grouped, by_compared, by_many, by_matched, by_operated, by_with_read, by_names_wanted, by_template_named, by_template_headed, by_template_wanted, by_window, by_window_wanted, by_window_read, by_offset_wanted, by_offset_back, joining, one_more, with_one_more, measured}
+use Rattle.mql_parse.specs.declared.fault.Wrong.{Wrong}
+use Rattle.mql_parse.specs.declared.fault.Wrong.TheVariants.{Unexpected, TooDeep, NumberTooWide}
+use Rattle.mql_parse.specs.Machine.{State, at, moved, reached, Frame, in_parens, in_minus, in_plus, in_operator, in_args, in_template, in_body, Before, step, by, final_of, standing, end_with, end_frame, close_frame, continue_frame, opened, opening, only, fits, reduce, Reduced, operate, close, continue, end, go_on, primary, complete, windowed, window_wanted, window_read, offset_wanted, offset_back, named, called, regrouped, grouped, names_wanted, in_names, in_braces, in_params, many_read, matched, with_read, template_wanted, template_named, template_headed, Purpose, before_args, after_args, matched_by, taken_over, named_for, Call, Head, Joint, Scope, calling, call_of, head_of, metric, joined, wanted, operated, compared, true_joint, no_more, within_part, by_wanted, by_named, by_called, by_regrouped, by_primary, by_grouped, by_compared, by_many, by_matched, by_operated, by_with_read, by_names_wanted, by_template_named, by_template_headed, by_template_wanted, by_window, by_window_wanted, by_window_read, by_offset_wanted, by_offset_back, joining, one_more, with_one_more, measured}
 use Rattle.mql_parse.proofs.Moves.{Yields, Moves}
 use Rattle.mql_parse.proofs.Parts.{names_from, params_from, braces_from}
 use Rattle.mql_parse.proofs.ToRead.{wants, level_some, level_most, with_args, with_more, no_more_args, one_more_arg, no_more_templates, one_more_template}
@@ -34,23 +36,23 @@ use Rattle.mql_parse.proofs.Held.{HeadRead, head_read, CallRead, call_read, Regr
 -- ---- tests
 
 -- a move that a test allows
-allowed : (t : Bool) (s u : State) → only t s ≡ Some u → t ≡ true
-allowed true s u is = refl
-allowed false s u is = absurd (cc is)
+allowed : (t : Bool) (wrong : Wrong) (s u : State) → only t wrong s ≡ Ok u → t ≡ true
+allowed true wrong s u is = refl
+allowed false wrong s u is = absurd (cc is)
 
-allowed_to : (t : Bool) (s u : State) → only t s ≡ Some u → s ≡ u
-allowed_to true s u is = cc
-allowed_to false s u is = absurd (cc is)
+allowed_to : (t : Bool) (wrong : Wrong) (s u : State) → only t wrong s ≡ Ok u → s ≡ u
+allowed_to true wrong s u is = cc
+allowed_to false wrong s u is = absurd (cc is)
 
-landed : (len : ℕ) (whole : List Word) (s u : State) (rest : List Word) → Some s ≡ Some u → HeldAt len whole s rest → HeldAt len whole u rest
+landed : (len : ℕ) (whole : List Word) (s u : State) (rest : List Word) → reached s ≡ reached u → HeldAt len whole s rest → HeldAt len whole u rest
 landed len whole s u rest is held = let same : s ≡ u = cc in subst (λ v. HeldAt len whole v rest) same held
 
 inside_holds : (len place : ℕ) (test : Bool) → fits (nat_lt place len) test ≡ true → place < len → test ≡ true
 inside_holds len place test is within = let yes : nat_lt place len ≡ true = grind (arith, nat_tests) in ap (λ i. fits i test) (sym yes) ∙ is
 
-may_open : (len place : ℕ) (fs : List Frame) (s u : State) → opening len place fs s ≡ Some u → MayOpen len (opened fs) place
+may_open : (len place : ℕ) (fs : List Frame) (s u : State) → opening len place fs s ≡ Ok u → MayOpen len (opened fs) place
 may_open len place fs s u is within =
-    let few : nat_lt (opened fs) deepest ≡ true = inside_holds len place (nat_lt (opened fs) deepest) (allowed (fits (nat_lt place len) (nat_lt (opened fs) deepest)) s u is) within in
+    let few : nat_lt (opened fs) deepest ≡ true = inside_holds len place (nat_lt (opened fs) deepest) (allowed (fits (nat_lt place len) (nat_lt (opened fs) deepest)) TooDeep s u is) within in
     grind (arith, nat_tests)
 
 -- ---- reducing
@@ -125,11 +127,11 @@ whole_selector (a_name w b is is_b) braces = a_selector w b is is_b braces
 
 -- a step of a part's machine
 part_kept : {S V : Type 0} (machine : S → Word → Option (Progress S V)) (start s : S) (w : Word) (inner rest : List Word) (into : S → State) (off : V → State) (u : State) (P : State → Type 0)
-    → leads machine start inner ≡ leads machine s (w ∷ rest) → within_part into off (machine s w) ≡ Some u
+    → leads machine start inner ≡ leads machine s (w ∷ rest) → within_part into off (machine s w) ≡ Ok u
     → ((t : S) → leads machine start inner ≡ leads machine t rest → P (into t)) → ((v : V) → leads machine start inner ≡ Some (v, rest) → P (off v)) → P u
 part_kept {S} {V} machine start s w inner rest into off u P history move goes_on ends = go (machine s w) history move
   where
-    go : (o : Option (Progress S V)) → leads machine start inner ≡ behind_step o (λ t. leads machine t rest) rest → within_part into off o ≡ Some u → P u
+    go : (o : Option (Progress S V)) → leads machine start inner ≡ behind_step o (λ t. leads machine t rest) rest → within_part into off o ≡ Ok u → P u
     go None history move = absurd (cc move)
     go (Some (Goes t)) history move = let same : into t ≡ u = cc move in subst P same (goes_on t history)
     go (Some (Done v)) history move = let same : off v ≡ u = cc move in subst P same (ends v history)
@@ -175,7 +177,7 @@ module _ (len : ℕ) (whole : List Word) where
   -- ---- behind an expression
 
   kept_close : (fs : List Frame) (o : Bool) (t : Tree) (start : List Word) (w : Word) (rest : List Word) (u : State) → Built len whole fs start
-      → Reads len (opened fs) 0 o start (w ∷ rest) t → Is Class.CloseRound w → close_frame fs t ≡ Some u → HeldAt len whole u rest
+      → Reads len (opened fs) 0 o start (w ∷ rest) t → Is Class.CloseRound w → close_frame fs t ≡ Ok u → HeldAt len whole u rest
   kept_close (in_parens ∷ fs) o t start w rest u (p, is_p, may, built) reads is move =
       landed len whole (at fs (primary t)) u rest move (p ∷ start, in_brackets p w is_p may reads is, built)
   kept_close (in_args c ∷ fs) o t start w rest u (first, args, built) reads is move =
@@ -190,7 +192,7 @@ module _ (len : ℕ) (whole : List Word) where
   kept_close (in_body scope ∷ fs) o t start w rest u built reads is move = absurd (cc move)
 
   kept_continue : (fs : List Frame) (o : Bool) (t : Tree) (start : List Word) (w : Word) (rest : List Word) (u : State) → Built len whole fs start
-      → Reads len (opened fs) 0 o start (w ∷ rest) t → Is Class.Comma w → continue_frame fs t ≡ Some u → HeldAt len whole u rest
+      → Reads len (opened fs) 0 o start (w ∷ rest) t → Is Class.Comma w → continue_frame fs t ≡ Ok u → HeldAt len whole u rest
   kept_continue (in_args c ∷ fs) o t start w rest u (first, args, built) reads is move =
       landed len whole (at (in_args (one_more c t) ∷ fs) wanted) u rest move
       (first,
@@ -211,7 +213,7 @@ module _ (len : ℕ) (whole : List Word) where
   kept_continue (in_body scope ∷ fs) o t start w rest u built reads is move = absurd (cc move)
 
   kept_go_on : (fs : List Frame) (t : Tree) (start : List Word) (w : Word) (rest : List Word) (u : State) → Reads len (opened fs) postfix false start (w ∷ rest) t
-      → Built len whole fs start → (c : Class) → Is c w → go_on fs t w c ≡ Some u → HeldAt len whole u rest
+      → Built len whole fs start → (c : Class) → Is c w → go_on fs t w c ≡ Ok u → HeldAt len whole u rest
   kept_go_on fs t start w rest u reads built (Class.Operator op) is move =
       let most = wants_most fs in
       let less = level_most op in
@@ -230,7 +232,7 @@ module _ (len : ℕ) (whole : List Word) where
   kept_go_on fs t start w rest u reads built _ is move = absurd (cc move)
 
   kept_primary : (fs : List Frame) (t : Tree) (start : List Word) (w : Word) (rest : List Word) (u : State) → Primary len (opened fs) start (w ∷ rest) t
-      → Built len whole fs start → (c : Class) → Is c w → by_primary fs t w c ≡ Some u → HeldAt len whole u rest
+      → Built len whole fs start → (c : Class) → Is c w → by_primary fs t w c ≡ Ok u → HeldAt len whole u rest
   kept_primary fs t start w rest u x built Class.OpenSquare is move =
       landed len whole (at fs (window_wanted w.at t)) u rest move (start, w, x, is, refl, built)
   kept_primary fs t start w rest u x built Class.Offset is move =
@@ -238,23 +240,23 @@ module _ (len : ℕ) (whole : List Word) where
   kept_primary fs t start w rest u x built c is move = kept_go_on fs t start w rest u (a_primary x) built c is move
 
   kept_regrouped : (fs : List Frame) (x : Call) (start : List Word) (w : Word) (rest : List Word) (u : State) → RegroupedRead len (opened fs) x start (w ∷ rest)
-      → Built len whole fs start → (c : Class) → Is c w → by_regrouped fs x w c ≡ Some u → HeldAt len whole u rest
+      → Built len whole fs start → (c : Class) → Is c w → by_regrouped fs x w c ≡ Ok u → HeldAt len whole u rest
   kept_regrouped fs x start w rest u read built Class.Keep is move =
       landed len whole (at fs (primary (calling x true))) u rest move (start, whole_call read (a_keep w is), built)
   kept_regrouped fs x start w rest u read built c is move = kept_primary fs (calling x false) start w rest u (whole_call read no_keep) built c is move
 
   kept_called : (fs : List Frame) (x : Call) (start : List Word) (w : Word) (rest : List Word) (u : State) → CallRead len (opened fs) x start (w ∷ rest)
-      → Built len whole fs start → (c : Class) → Is c w → by_called fs x w c ≡ Some u → HeldAt len whole u rest
+      → Built len whole fs start → (c : Class) → Is c w → by_called fs x w c ≡ Ok u → HeldAt len whole u rest
   kept_called fs x start w rest u read built (Class.Grouping by_word) is move =
       landed len whole (at fs (names_wanted (after_args x by_word))) u rest move (start, for_after w by_word read is, built)
   kept_called fs x start w rest u read built c is move = kept_regrouped fs x start w rest u (ungrouped read) built c is move
 
   kept_named : (fs : List Frame) (h : Head) (v w : Word) (rest : List Word) (u : State) → h ≡ head_of v → Is Class.Identifier v → Built len whole fs (v ∷ w ∷ rest)
-      → (c : Class) → Is c w → by_named len fs h w c ≡ Some u → HeldAt len whole u rest
+      → (c : Class) → Is c w → by_named len fs h w c ≡ Ok u → HeldAt len whole u rest
   kept_named fs h v w rest u same is_v built Class.OpenRound is move =
       let new : State = at (in_args (call_of h) ∷ fs) wanted in
       let may = may_open len w.at fs new u move in
-      let to : Some new ≡ Some u = ap Some (allowed_to (fits (nat_lt w.at len) (nat_lt (opened fs) deepest)) new u move) in
+      let to : reached new ≡ reached u = ap reached (allowed_to (fits (nat_lt w.at len) (nat_lt (opened fs) deepest)) TooDeep new u move) in
       landed len whole new u rest to (v ∷ w ∷ rest, args_begin w (named_head h v (w ∷ rest) same is_v) refl is may, built)
   kept_named fs h v w rest u same is_v built Class.OpenCurly is move =
       landed len whole (at fs (in_braces h.at (Some h.name) braces_start)) u rest move
@@ -267,17 +269,17 @@ module _ (len : ℕ) (whole : List Word) where
       (subst (λ g. Primary len (opened fs) (v ∷ w ∷ rest) (w ∷ rest) (metric g)) (sym same) (a_metric v is_v)) built c is move
 
   kept_grouped : (fs : List Frame) (x : Call) (start : List Word) (w : Word) (rest : List Word) (u : State) → HeadRead x start (w ∷ rest) → Built len whole fs start
-      → (c : Class) → Is c w → by_grouped len fs x w c ≡ Some u → HeldAt len whole u rest
+      → (c : Class) → Is c w → by_grouped len fs x w c ≡ Ok u → HeldAt len whole u rest
   kept_grouped fs x start w rest u head built Class.OpenRound is move =
       let new : State = at (in_args x ∷ fs) wanted in
       let may = may_open len w.at fs new u move in
-      let to : Some new ≡ Some u = ap Some (allowed_to (fits (nat_lt w.at len) (nat_lt (opened fs) deepest)) new u move) in
+      let to : reached new ≡ reached u = ap reached (allowed_to (fits (nat_lt w.at len) (nat_lt (opened fs) deepest)) TooDeep new u move) in
       landed len whole new u rest to (start, args_begin w head refl is may, built)
   kept_grouped fs x start w rest u head built _ is move = absurd (cc move)
 
   -- ---- where an expression is wanted
 
-  kept_no_more : (fs : List Frame) (w : Word) (rest : List Word) (u : State) → Built len whole fs (w ∷ rest) → Is Class.CloseRound w → no_more fs ≡ Some u
+  kept_no_more : (fs : List Frame) (w : Word) (rest : List Word) (u : State) → Built len whole fs (w ∷ rest) → Is Class.CloseRound w → no_more fs ≡ Ok u
       → HeldAt len whole u rest
   kept_no_more (in_args c ∷ fs) w rest u (start, args, built) is move =
       landed len whole (at fs (called c)) u rest move
@@ -290,13 +292,13 @@ module _ (len : ℕ) (whole : List Word) where
   kept_no_more (in_template scope h ps ∷ fs) w rest u built is move = absurd (cc move)
   kept_no_more (in_body scope ∷ fs) w rest u built is move = absurd (cc move)
 
-  kept_wanted : (fs : List Frame) (w : Word) (rest : List Word) (u : State) → Built len whole fs (w ∷ rest) → (c : Class) → Is c w → by_wanted len fs w c ≡ Some u
+  kept_wanted : (fs : List Frame) (w : Word) (rest : List Word) (u : State) → Built len whole fs (w ∷ rest) → (c : Class) → Is c w → by_wanted len fs w c ≡ Ok u
       → HeldAt len whole u rest
   kept_wanted fs w rest u built Class.Numeral is move =
       let new : State = at fs (primary (number w.at (or_zero (number_of w.text)))) in
       let test = fits (nat_lt w.at len) (is_some (number_of w.text)) in
-      let to : Some new ≡ Some u = ap Some (allowed_to test new u move) in
-      landed len whole new u rest to (w ∷ rest, a_number w is (inside_holds len w.at (is_some (number_of w.text)) (allowed test new u move)), built)
+      let to : reached new ≡ reached u = ap reached (allowed_to test NumberTooWide new u move) in
+      landed len whole new u rest to (w ∷ rest, a_number w is (inside_holds len w.at (is_some (number_of w.text)) (allowed test NumberTooWide new u move)), built)
   kept_wanted fs w rest u built Class.Quoted is move =
       landed len whole (at fs (primary (string w.at (value_of w.text)))) u rest move (w ∷ rest, a_string w is, built)
   kept_wanted fs w rest u built Class.Identifier is move = landed len whole (at fs (named (head_of w))) u rest move (w, refl, is, built)
@@ -304,35 +306,35 @@ module _ (len : ℕ) (whole : List Word) where
       landed len whole (at fs (in_braces w.at None braces_start)) u rest move (w ∷ rest, rest, no_name w is, refl, built)
   kept_wanted fs w rest u built Class.OpenRound is move =
       let new : State = at (in_parens ∷ fs) wanted in
-      let to : Some new ≡ Some u = ap Some (allowed_to (fits (nat_lt w.at len) (nat_lt (opened fs) deepest)) new u move) in
+      let to : reached new ≡ reached u = ap reached (allowed_to (fits (nat_lt w.at len) (nat_lt (opened fs) deepest)) TooDeep new u move) in
       landed len whole new u rest to (w, is, may_open len w.at fs new u move, built)
   kept_wanted fs w rest u built Class.CloseRound is move = kept_no_more fs w rest u built is move
   kept_wanted fs w rest u built Class.With is move = landed len whole (at fs (with_read w.at)) u rest move (w, refl, is, built)
   kept_wanted fs w rest u built (Class.Operator Op.Sub) is move =
       let new : State = at (in_minus w.at ∷ fs) wanted in
-      let to : Some new ≡ Some u = ap Some (allowed_to (fits (nat_lt w.at len) (nat_lt (opened fs) deepest)) new u move) in
+      let to : reached new ≡ reached u = ap reached (allowed_to (fits (nat_lt w.at len) (nat_lt (opened fs) deepest)) TooDeep new u move) in
       landed len whole new u rest to (w, is, may_open len w.at fs new u move, refl, built)
   kept_wanted fs w rest u built (Class.Operator Op.Add) is move =
       let new : State = at (in_plus ∷ fs) wanted in
-      let to : Some new ≡ Some u = ap Some (allowed_to (fits (nat_lt w.at len) (nat_lt (opened fs) deepest)) new u move) in
+      let to : reached new ≡ reached u = ap reached (allowed_to (fits (nat_lt w.at len) (nat_lt (opened fs) deepest)) TooDeep new u move) in
       landed len whole new u rest to (w, is, may_open len w.at fs new u move, built)
   kept_wanted fs w rest u built _ is move = absurd (cc move)
 
   -- ---- behind an operator
 
   kept_compared : (fs : List Frame) (j : Joint) (start : List Word) (w : Word) (rest : List Word) (u : State) → JointRead len fs j start (w ∷ rest) → Built len whole fs start
-      → (c : Class) → Is c w → by_compared len fs j w c ≡ Some u → HeldAt len whole u rest
+      → (c : Class) → Is c w → by_compared len fs j w c ≡ Ok u → HeldAt len whole u rest
   kept_compared fs j start w rest u joint built (Class.Pairing kind) is move =
       landed len whole (at fs (names_wanted (matched_by j kind))) u rest move (start, for_match w kind joint is, built)
   kept_compared fs j start w rest u joint built c is move =
       kept_wanted (in_operator j (matching All [] One []) ∷ fs) w rest u (start, w ∷ rest, joint, no_mods, built) c is move
 
   kept_operated : (fs : List Frame) (j : Joint) (start : List Word) (w : Word) (rest : List Word) (u : State) → OperatorRead len fs j start (w ∷ rest) → Built len whole fs start
-      → (c : Class) → Is c w → by_operated len fs j w c ≡ Some u → HeldAt len whole u rest
+      → (c : Class) → Is c w → by_operated len fs j w c ≡ Ok u → HeldAt len whole u rest
   kept_operated fs j start w rest u operator built Class.Truth is move =
       let new : State = at fs (compared (true_joint j)) in
-      let to : Some new ≡ Some u = ap Some (allowed_to (is_comparison j.op) new u move) in
-      landed len whole new u rest to (start, truthful w operator refl is (allowed (is_comparison j.op) new u move), built)
+      let to : reached new ≡ reached u = ap reached (allowed_to (is_comparison j.op) Unexpected new u move) in
+      landed len whole new u rest to (start, truthful w operator refl is (allowed (is_comparison j.op) Unexpected new u move), built)
   kept_operated fs j start w rest u operator built c is move = kept_compared fs j start w rest u (truthless operator) built c is move
 
   match_built : {fs : List Frame} {j : Joint} {kind : MatchKind} {names extra : List (List ℕ)} {side : Many} {start behind rest : List Word}
@@ -342,7 +344,7 @@ module _ (len : ℕ) (whole : List Word) where
 
   kept_matched : (fs : List Frame) (j : Joint) (kind : MatchKind) (names : List (List ℕ)) (start : List Word) (w : Word) (rest : List Word) (u : State)
       → MatchRead len fs j kind names start (w ∷ rest) → Built len whole fs start
-      → (c : Class) → Is c w → by_matched len fs j kind names w c ≡ Some u → HeldAt len whole u rest
+      → (c : Class) → Is c w → by_matched len fs j kind names w c ≡ Ok u → HeldAt len whole u rest
   kept_matched fs j kind names start w rest u read built (Class.Joining side) is move =
       landed len whole (at fs (many_read j kind names side)) u rest move (start, w, read, is, built)
   kept_matched fs j kind names start w rest u read built c is move =
@@ -350,7 +352,7 @@ module _ (len : ℕ) (whole : List Word) where
 
   kept_many : (fs : List Frame) (j : Joint) (kind : MatchKind) (names : List (List ℕ)) (side : Many) (start : List Word) (v w : Word) (rest : List Word) (u : State)
       → MatchRead len fs j kind names start (v ∷ w ∷ rest) → Is (Class.Joining side) v → Built len whole fs start
-      → (c : Class) → Is c w → by_many len fs j kind names side w c ≡ Some u → HeldAt len whole u rest
+      → (c : Class) → Is c w → by_many len fs j kind names side w c ≡ Ok u → HeldAt len whole u rest
   kept_many fs j kind names side start v w rest u read is_v built Class.OpenRound is move =
       landed len whole (at fs (in_names (taken_over j kind names side) names_start)) u rest move
       (start, w, rest, for_many v side read is_v, is, refl, built)
@@ -368,15 +370,15 @@ module _ (len : ℕ) (whole : List Word) where
 
   -- ---- windows and offsets
 
-  length_fits : (w : Word) (s u : State) → measured len w s ≡ Some u → LengthFits len w
-  length_fits w s u move = inside_holds len w.at (is_short (length_of w.text)) (allowed (fits (nat_lt w.at len) (is_short (length_of w.text))) s u move)
+  length_fits : (w : Word) (s u : State) → measured len w s ≡ Ok u → LengthFits len w
+  length_fits w s u move = inside_holds len w.at (is_short (length_of w.text)) (allowed (fits (nat_lt w.at len) (is_short (length_of w.text))) NumberTooWide s u move)
 
-  length_to : (w : Word) (s u : State) → measured len w s ≡ Some u → Some s ≡ Some u
-  length_to w s u move = ap Some (allowed_to (fits (nat_lt w.at len) (is_short (length_of w.text))) s u move)
+  length_to : (w : Word) (s u : State) → measured len w s ≡ Ok u → reached s ≡ reached u
+  length_to w s u move = ap reached (allowed_to (fits (nat_lt w.at len) (is_short (length_of w.text))) NumberTooWide s u move)
 
   kept_window_wanted : (fs : List Frame) (place : ℕ) (t : Tree) (start : List Word) (v w : Word) (rest : List Word) (u : State)
       → Primary len (opened fs) start (v ∷ w ∷ rest) t → Is Class.OpenSquare v → place ≡ v.at → Built len whole fs start
-      → (c : Class) → Is c w → by_window_wanted len fs place t w c ≡ Some u → HeldAt len whole u rest
+      → (c : Class) → Is c w → by_window_wanted len fs place t w c ≡ Ok u → HeldAt len whole u rest
   kept_window_wanted fs place t start v w rest u x is_v same built Class.Time is move =
       let new : State = at fs (window_read place t (ahead (length_of w.text))) in
       let fit = length_fits w new u move in
@@ -391,14 +393,14 @@ module _ (len : ℕ) (whole : List Word) where
 
   kept_window_read : (fs : List Frame) (place : ℕ) (t : Tree) (span : Span) (start : List Word) (w : Word) (rest : List Word) (u : State)
       → ((e : Word) (more : List Word) → w ∷ rest ≡ e ∷ more → Is Class.CloseSquare e → Windowed len (opened fs) place t span start more) → Built len whole fs start
-      → (c : Class) → Is c w → by_window_read fs place t span c ≡ Some u → HeldAt len whole u rest
+      → (c : Class) → Is c w → by_window_read fs place t span c ≡ Ok u → HeldAt len whole u rest
   kept_window_read fs place t span start w rest u read built Class.CloseSquare is move =
       landed len whole (at fs (windowed place t span)) u rest move (start, read w rest refl is, built)
   kept_window_read fs place t span start w rest u read built _ is move = absurd (cc move)
 
   kept_window : (fs : List Frame) (place : ℕ) (t : Tree) (span : Span) (start : List Word) (w : Word) (rest : List Word) (u : State)
       → Windowed len (opened fs) place t span start (w ∷ rest) → Built len whole fs start
-      → (c : Class) → Is c w → by_window fs place t span w c ≡ Some u → HeldAt len whole u rest
+      → (c : Class) → Is c w → by_window fs place t span w c ≡ Ok u → HeldAt len whole u rest
   kept_window fs place t span start w rest u read built Class.Offset is move =
       landed len whole (at fs (offset_wanted place t (Some span))) u rest move
       (start, w, is, (λ more s off. read more (Some s) (some_offset off)), built)
@@ -407,7 +409,7 @@ module _ (len : ℕ) (whole : List Word) where
 
   kept_offset_wanted : (fs : List Frame) (place : ℕ) (t : Tree) (window : Option Span) (start : List Word) (v w : Word) (rest : List Word) (u : State)
       → Is Class.Offset v → Offsets len (opened fs) place t window v.at start (v ∷ w ∷ rest) → Built len whole fs start
-      → (c : Class) → Is c w → by_offset_wanted len fs place t window w c ≡ Some u → HeldAt len whole u rest
+      → (c : Class) → Is c w → by_offset_wanted len fs place t window w c ≡ Ok u → HeldAt len whole u rest
   kept_offset_wanted fs place t window start v w rest u is_v read built Class.Time is move =
       let new : State = at fs (complete (ranged place t window (Some (ahead (length_of w.text))))) in
       landed len whole new u rest (length_to w new u move)
@@ -418,7 +420,7 @@ module _ (len : ℕ) (whole : List Word) where
 
   kept_offset_back : (fs : List Frame) (place : ℕ) (t : Tree) (window : Option Span) (start : List Word) (v m w : Word) (rest : List Word) (u : State)
       → Is Class.Offset v → Is (Class.Operator Op.Sub) m → Offsets len (opened fs) place t window v.at start (v ∷ m ∷ w ∷ rest) → Built len whole fs start
-      → (c : Class) → Is c w → by_offset_back len fs place t window w c ≡ Some u → HeldAt len whole u rest
+      → (c : Class) → Is c w → by_offset_back len fs place t window w c ≡ Ok u → HeldAt len whole u rest
   kept_offset_back fs place t window start v m w rest u is_v is_m read built Class.Time is move =
       let new : State = at fs (complete (ranged place t window (Some (back (length_of w.text))))) in
       landed len whole new u rest (length_to w new u move)
@@ -428,11 +430,11 @@ module _ (len : ℕ) (whole : List Word) where
   -- ---- templates
 
   kept_with_read : (fs : List Frame) (place : ℕ) (v w : Word) (rest : List Word) (u : State) → place ≡ v.at → Is Class.With v → Built len whole fs (v ∷ w ∷ rest)
-      → (c : Class) → Is c w → by_with_read len fs place w c ≡ Some u → HeldAt len whole u rest
+      → (c : Class) → Is c w → by_with_read len fs place w c ≡ Ok u → HeldAt len whole u rest
   kept_with_read fs place v w rest u same is_v built Class.OpenRound is move =
       let new : State = at fs (template_wanted (record { at = place; templates = [] })) in
       let may = may_open len w.at fs new u move in
-      let to : Some new ≡ Some u = ap Some (allowed_to (fits (nat_lt w.at len) (nat_lt (opened fs) deepest)) new u move) in
+      let to : reached new ≡ reached u = ap reached (allowed_to (fits (nat_lt w.at len) (nat_lt (opened fs) deepest)) TooDeep new u move) in
       landed len whole new u rest to
       (v ∷ w ∷ rest,
       (λ ts e body more is_e. subst (λ p. WithRead len (opened fs) (record { at = p; templates = ts }) (v ∷ w ∷ rest) body) (sym same) (whole_with v w e is_v is may more is_e)),
@@ -441,7 +443,7 @@ module _ (len : ℕ) (whole : List Word) where
 
   kept_template_wanted : (fs : List Frame) (scope : Scope) (start : List Word) (w : Word) (rest : List Word) (u : State)
       → InTemplates len (opened fs) scope start (w ∷ rest) → Built len whole fs start
-      → (c : Class) → Is c w → by_template_wanted fs scope w c ≡ Some u → HeldAt len whole u rest
+      → (c : Class) → Is c w → by_template_wanted fs scope w c ≡ Ok u → HeldAt len whole u rest
   kept_template_wanted fs scope start w rest u read built Class.Identifier is move =
       landed len whole (at fs (template_named scope (head_of w))) u rest move (start, w, read, refl, is, built)
   kept_template_wanted fs scope start w rest u read built Class.CloseRound is move =
@@ -451,14 +453,14 @@ module _ (len : ℕ) (whole : List Word) where
 
   kept_template_headed : (fs : List Frame) (scope : Scope) (h : Head) (ps : List Param) (start mid : List Word) (w : Word) (rest : List Word) (u : State)
       → InTemplates len (opened fs) scope start mid → TemplateHead h ps mid (w ∷ rest) → Built len whole fs start
-      → (c : Class) → Is c w → by_template_headed fs scope h ps c ≡ Some u → HeldAt len whole u rest
+      → (c : Class) → Is c w → by_template_headed fs scope h ps c ≡ Ok u → HeldAt len whole u rest
   kept_template_headed fs scope h ps start mid w rest u read head built Class.Assign is move =
       landed len whole (at (in_template scope h ps ∷ fs) wanted) u rest move (start, mid, w, read, head, is, built)
   kept_template_headed fs scope h ps start mid w rest u read head built _ is move = absurd (cc move)
 
   kept_template_named : (fs : List Frame) (scope : Scope) (h : Head) (start : List Word) (v w : Word) (rest : List Word) (u : State)
       → InTemplates len (opened fs) scope start (v ∷ w ∷ rest) → h ≡ head_of v → Is Class.Identifier v → Built len whole fs start
-      → (c : Class) → Is c w → by_template_named fs scope h c ≡ Some u → HeldAt len whole u rest
+      → (c : Class) → Is c w → by_template_named fs scope h c ≡ Ok u → HeldAt len whole u rest
   kept_template_named fs scope h start v w rest u read same is_v built Class.OpenRound is move =
       landed len whole (at fs (in_params scope h params_start)) u rest move (start, v, w, rest, read, same, is_v, is, refl, built)
   kept_template_named fs scope h start v w rest u read same is_v built c is move =
@@ -467,7 +469,7 @@ module _ (len : ℕ) (whole : List Word) where
 
   -- ---- one step
 
-  kept : (fs : List Frame) (b : Before) (w : Word) (rest : List Word) (u : State) → Held len whole fs b (w ∷ rest) → by len fs b w (class_of_word w) ≡ Some u
+  kept : (fs : List Frame) (b : Before) (w : Word) (rest : List Word) (u : State) → Held len whole fs b (w ∷ rest) → by len fs b w (class_of_word w) ≡ Ok u
       → HeldAt len whole u rest
   kept fs wanted w rest u built move = kept_wanted fs w rest u built (class_of_word w) refl move
   kept fs (named h) w rest u (v, same, is_v, built) move = kept_named fs h v w rest u same is_v built (class_of_word w) refl move
@@ -476,7 +478,7 @@ module _ (len : ℕ) (whole : List Word) where
   kept fs (regrouped x) w rest u (start, read, built) move = kept_regrouped fs x start w rest u read built (class_of_word w) refl move
   kept fs (names_wanted p) w rest u (start, read, built) move = go (class_of_word w) refl move
     where
-      go : (c : Class) → Is c w → Rattle.mql_parse.specs.Machine.by_names_wanted fs p c ≡ Some u → HeldAt len whole u rest
+      go : (c : Class) → Is c w → Rattle.mql_parse.specs.Machine.by_names_wanted fs p c ≡ Ok u → HeldAt len whole u rest
       go Class.OpenRound is move = landed len whole (at fs (in_names p names_start)) u rest move (start, w, rest, read, is, refl, built)
       go _ is move = absurd (cc move)
   kept fs (in_names p s) w rest u (start, v, inner, read, is_v, history, built) move =
@@ -543,8 +545,8 @@ module _ (len : ℕ) (whole : List Word) where
 
   pub from_read : (s : State) (rest : List Word) (r : Tree) → HeldAt len whole s rest → Yields len s rest r → Spells len whole r
   from_read s [] r held reads = finished s.frames s.before r held reads
-  from_read s (w ∷ rest) r held reads = go (step len s w) refl reads (λ u. from_read u rest r)
+  from_read s (w ∷ rest) r held reads = go (by len s.frames s.before w (class_of_word w)) refl reads (λ u. from_read u rest r)
     where
-      go : (o : Option State) → step len s w ≡ o → Moves len o rest r → ((u : State) → HeldAt len whole u rest → Yields len u rest r → Spells len whole r) → Spells len whole r
-      go None is moves more = absurd (cc moves)
-      go (Some u) is moves more = more u (kept s.frames s.before w rest u held is) moves
+      go : (o : Result State Wrong) → by len s.frames s.before w (class_of_word w) ≡ o → Moves len (moved o) rest r → ((u : State) → HeldAt len whole u rest → Yields len u rest r → Spells len whole r) → Spells len whole r
+      go (Err wrong) is moves more = absurd (cc moves)
+      go (Ok u) is moves more = more u (kept s.frames s.before w rest u held is) moves

@@ -1,5 +1,5 @@
 -- What is in the grammar is read by the machine.
-use Rattle.std.specs.Prelude.{◌≡◌, ℕ, suc, ◌<◌, ◌≤◌, ◌==◌, nat_lt, nat_le, Bool, true, false, List, [], ◌∷◌, ◌++◌, Option, Some, None, is_some, option_and_then}
+use Rattle.std.specs.Prelude.{◌≡◌, ℕ, suc, ◌<◌, ◌≤◌, ◌==◌, nat_lt, nat_le, Bool, true, false, List, [], ◌∷◌, ◌++◌, Option, Some, None, is_some, Result, Ok, Err, option_and_then}
 use Rattle.std.proofs.Common.{refl, ap, sym, subst, ◌∙◌, arith, append_assoc, append-nil}
 use Rattle.std.proofs.lemmas.Bool.Decides.{nat_tests}
 use Rattle.vm_base.specs.Run.{run}
@@ -22,7 +22,8 @@ use Rattle.mql_lists.specs.Machines.{names_start, names_step, params_start, para
 use Rattle.mql_lists.specs.Grammar.{Names, Params, Braces}
 use Rattle.mql_parse.specs.Values.{number_of, or_zero, length_of, is_short, ahead, back}
 use Rattle.mql_parse.specs.Grammar.{Is, level, is_comparison, deepest, MayOpen, NumberFits, LengthFits, ListedNames, in_parens as parens, GroupIfAny, no_group, a_group, KeepIfAny, no_keep, a_keep, TruthIfAny, no_truth, a_truth, begins_open, ManyIfAny, no_many, a_many, many_names, matching, Mods, no_mods, some_mods, Offset, an_offset, offset_back as a_back, OffsetIfAny, no_offset, some_offset, Postfix, windowed as a_window, not_windowed, ParamsIfAny, no_params, some_params, unary, postfix, Reads, looser, an_operator, a_minus, a_plus, a_primary, a_postfix, a_with, Primary, a_number, a_string, in_brackets, a_call, a_metric, a_selector, a_nameless, Args, no_args, last_arg, next_arg, Template, a_template, Templates, no_template, last_template, more_templates}
-use Rattle.mql_parse.specs.Machine.{State, at, Frame, in_parens, in_minus, in_plus, in_operator, in_args, in_template, in_body, Before, step, by, final_of, standing, opened, opening, only, fits, reduce, Reduced, operate, close, continue, end, go_on, primary, complete, windowed, window_wanted, window_read, offset_wanted, offset_back, named, called, regrouped, grouped, names_wanted, in_names, in_braces, in_params, many_read, matched, with_read, template_wanted, template_named, template_headed, Purpose, before_args, after_args, matched_by, taken_over, named_for, Call, Head, Joint, Scope, calling, call_of, head_of, metric, joined, wanted, operated, compared, true_joint, by_wanted, by_compared, by_many, by_matched, by_operated, by_template_named, by_template_headed, by_window, joining, one_more, with_one_more, measured}
+use Rattle.mql_parse.specs.declared.fault.Wrong.TheVariants.{Unexpected, TooDeep, NumberTooWide}
+use Rattle.mql_parse.specs.Machine.{State, at, moved, Frame, in_parens, in_minus, in_plus, in_operator, in_args, in_template, in_body, Before, step, by, final_of, standing, opened, opening, only, fits, reduce, Reduced, operate, close, continue, end, go_on, primary, complete, windowed, window_wanted, window_read, offset_wanted, offset_back, named, called, regrouped, grouped, names_wanted, in_names, in_braces, in_params, many_read, matched, with_read, template_wanted, template_named, template_headed, Purpose, before_args, after_args, matched_by, taken_over, named_for, Call, Head, Joint, Scope, calling, call_of, head_of, metric, joined, wanted, operated, compared, true_joint, by_wanted, by_compared, by_many, by_matched, by_operated, by_template_named, by_template_headed, by_window, joining, one_more, with_one_more, measured}
 use Rattle.mql_parse.proofs.Moves.{Yields, on, on_class, Like, like, primary_like, named_like, regrouped_like, called_like, part}
 use Rattle.mql_parse.proofs.Parts.{names_read, params_read, braces_read}
 
@@ -42,11 +43,11 @@ bound len place test holds = go (nat_lt place len) refl
     go true is = let within : place < len = grind (arith, nat_tests) in holds within
     go false is = refl
 
-open_move : (len n place : ℕ) (fs : List Frame) (s : State) → opened fs ≡ n → MayOpen len n place → opening len place fs s ≡ Some s
-open_move len n place fs s levels may = ap (λ k. only (fits (nat_lt place len) (nat_lt k deepest)) s) levels ∙ ap (λ t. only t s) (under len n place may)
+open_move : (len n place : ℕ) (fs : List Frame) (s : State) → opened fs ≡ n → MayOpen len n place → opening len place fs s ≡ Ok s
+open_move len n place fs s levels may = ap (λ k. only (fits (nat_lt place len) (nat_lt k deepest)) TooDeep s) levels ∙ ap (λ t. only t TooDeep s) (under len n place may)
 
-measured_move : (len : ℕ) (w : Word) (s : State) → LengthFits len w → measured len w s ≡ Some s
-measured_move len w s fit = ap (λ t. only t s) (bound len w.at (is_short (length_of w.text)) fit)
+measured_move : (len : ℕ) (w : Word) (s : State) → LengthFits len w → measured len w s ≡ Ok s
+measured_move len w s fit = ap (λ t. only t NumberTooWide s) (bound len w.at (is_short (length_of w.text)) fit)
 
 -- ---- parts
 
@@ -77,18 +78,18 @@ module _ (len : ℕ) (fs : List Frame) {r : Tree} where
       like len (at fs (operated j)) (at fs (compared j)) (record { moves = λ w u. go w u (class_of_word w); ends = λ t is. is }) text r
       (subst (λ v. Yields len (at fs (compared (record { at = j.at; op = j.op; truth = v; operand = j.operand }))) text r) (sym plain) reads)
     where
-      go : (w : Word) (u : State) (c : Class) → by_compared len fs j w c ≡ Some u → by_operated len fs j w c ≡ Some u
+      go : (w : Word) (u : State) (c : Class) → moved (by_compared len fs j w c) ≡ Some u → moved (by_operated len fs j w c) ≡ Some u
       go w u Class.Truth is = absurd (cc is)
       go w u _ is = is
   truth_go j (a_truth {text = text} w is compares) reads plain =
-      on_class len fs (operated j) Class.Truth (at fs (compared (true_joint j))) w text r is (ap (λ t. only t (at fs (compared (true_joint j)))) compares) reads
+      on_class len fs (operated j) Class.Truth (at fs (compared (true_joint j))) w text r is (ap (λ t. only t Unexpected (at fs (compared (true_joint j)))) compares) reads
 
   -- where no `(` follows
   many_plain : (j : Joint) (kind : MatchKind) (names : List (List ℕ)) (side : Many) (text : List Word) → begins_open text ≡ false
       → Yields len (at (in_operator j (matching kind names side []) ∷ fs) wanted) text r → Yields len (at fs (many_read j kind names side)) text r
   many_plain j kind names side [] no_open reads = absurd (cc reads)
   many_plain j kind names side (w ∷ text) no_open reads =
-      ap (λ o. option_and_then final_of (option_and_then (λ t. run (step len) t text) o)) (same (class_of_word w) refl) ∙ reads
+      ap (λ o. option_and_then final_of (option_and_then (λ t. run (step len) t text) (moved o))) (same (class_of_word w) refl) ∙ reads
     where
       same : (c : Class) → class_of_word w ≡ c → by_many len fs j kind names side w c ≡ by_wanted len (joining fs j (matching kind names side [])) w c
       same Class.OpenRound is = let opens : begins_open (w ∷ text) ≡ true = rw is refl in absurd (cc (opens, no_open))
@@ -106,7 +107,7 @@ module _ (len : ℕ) (fs : List Frame) {r : Tree} where
       like len (at fs (matched j kind names)) (at (in_operator j (matching kind names One []) ∷ fs) wanted)
       (record { moves = λ w u. go w u (class_of_word w); ends = λ t is. absurd (cc is) }) text r reads
     where
-      go : (w : Word) (u : State) (c : Class) → by_wanted len (joining fs j (matching kind names One [])) w c ≡ Some u → by_matched len fs j kind names w c ≡ Some u
+      go : (w : Word) (u : State) (c : Class) → moved (by_wanted len (joining fs j (matching kind names One [])) w c) ≡ Some u → moved (by_matched len fs j kind names w c) ≡ Some u
       go w u (Class.Joining side) is = absurd (cc is)
       go w u _ is = is
   many_go j kind names (a_many {text = text} {many = side} w is no_open) reads =
@@ -122,7 +123,7 @@ module _ (len : ℕ) (fs : List Frame) {r : Tree} where
       like len (at fs (compared j)) (at (in_operator j (matching All [] One []) ∷ fs) wanted)
       (record { moves = λ w u. go w u (class_of_word w); ends = λ t is. absurd (cc is) }) text r reads
     where
-      go : (w : Word) (u : State) (c : Class) → by_wanted len (joining fs j (matching All [] One [])) w c ≡ Some u → by_compared len fs j w c ≡ Some u
+      go : (w : Word) (u : State) (c : Class) → moved (by_wanted len (joining fs j (matching All [] One [])) w c) ≡ Some u → moved (by_compared len fs j w c) ≡ Some u
       go w u (Class.Pairing kind) is = absurd (cc is)
       go w u _ is = is
   mods_go j (some_mods {text = text} {kind = kind} {names = names} w is listed more) reads =
@@ -177,7 +178,7 @@ module _ (len : ℕ) (fs : List Frame) {r : Tree} where
       like len (at fs (windowed place t span)) (at fs (complete (ranged place t (Some span) None)))
       (record { moves = λ w u. go w u (class_of_word w); ends = λ t is. is }) text r reads
     where
-      go : (w : Word) (u : State) (c : Class) → go_on fs (ranged place t (Some span) None) w c ≡ Some u → by_window fs place t span w c ≡ Some u
+      go : (w : Word) (u : State) (c : Class) → moved (go_on fs (ranged place t (Some span) None) w c) ≡ Some u → moved (by_window fs place t span w c) ≡ Some u
       go w u Class.Offset is = absurd (cc is)
       go w u _ is = is
   windowed_go place t span (some_offset x) reads =
@@ -203,7 +204,7 @@ module _ (len : ℕ) (fs : List Frame) {r : Tree} where
       like len (at fs (template_named s h)) (at fs (template_headed s h []))
       (record { moves = λ w u. go w u (class_of_word w); ends = λ t is. absurd (cc is) }) text r reads
     where
-      go : (w : Word) (u : State) (c : Class) → by_template_headed fs s h [] c ≡ Some u → by_template_named fs s h c ≡ Some u
+      go : (w : Word) (u : State) (c : Class) → moved (by_template_headed fs s h [] c) ≡ Some u → moved (by_template_named fs s h c) ≡ Some u
       go w u Class.OpenRound is = absurd (cc is)
       go w u _ is = is
   params_go s h (some_params {text = text} {rest = rest} {params = ps} w is there) reads =
@@ -224,16 +225,16 @@ wants (_ ∷ fs) = 0
 -- one may follow, `)`, `,` and the end.
 pub record After (len l : ℕ) (o : Bool) (fs : List Frame) (t : Tree) (s : State) : Type 0 where
   pub operators : (w : Word) (op : Op) → Is (Class.Operator op) w → level op ≤ l → o ≡ false → step len s w ≡ Some (operate (reduce (level op) fs t) w op)
-  pub closes : (w : Word) → Is Class.CloseRound w → step len s w ≡ close (reduce 0 fs t)
-  pub continues : (w : Word) → Is Class.Comma w → step len s w ≡ continue (reduce 0 fs t)
+  pub closes : (w : Word) → Is Class.CloseRound w → step len s w ≡ moved (close (reduce 0 fs t))
+  pub continues : (w : Word) → Is Class.Comma w → step len s w ≡ moved (continue (reduce 0 fs t))
   pub ends : final_of s ≡ end (reduce 0 fs t)
 
 module _ (len l : ℕ) (fs : List Frame) (t : Tree) where
   complete_after : After len l false fs t (at fs (complete t))
   complete_after = record {
-    operators = λ w op is le no. ap (λ c. go_on fs t w c) is;
-    closes = λ w is. ap (λ c. go_on fs t w c) is;
-    continues = λ w is. ap (λ c. go_on fs t w c) is;
+    operators = λ w op is le no. ap (λ c. moved (go_on fs t w c)) is;
+    closes = λ w is. ap (λ c. moved (go_on fs t w c)) is;
+    continues = λ w is. ap (λ c. moved (go_on fs t w c)) is;
     ends = refl;
   }
 
@@ -255,8 +256,8 @@ joined_after len o j m fs t s after = record {
   operators = λ w op is le no.
       let less : level op ≤ suc (level j.op) = omega arith in
       after.operators w op is less no ∙ ap (λ r. Some (operate r w op)) (through (level op) j m fs t le);
-  closes = λ w is. after.closes w is ∙ ap close (through 0 j m fs t (omega arith));
-  continues = λ w is. after.continues w is ∙ ap continue (through 0 j m fs t (omega arith));
+  closes = λ w is. after.closes w is ∙ ap (λ r. moved (close r)) (through 0 j m fs t (omega arith));
+  continues = λ w is. after.continues w is ∙ ap (λ r. moved (continue r)) (through 0 j m fs t (omega arith));
   ends = after.ends ∙ ap end (through 0 j m fs t (omega arith));
 }
 
@@ -366,7 +367,7 @@ mutual
       → (r : Tree) → Yields len (at fs (primary t)) rest r → Yields len (at fs wanted) text r
   primary_read {len = len} (a_number {rest = rest} w is fit) fs levels r reads =
       on_class len fs wanted Class.Numeral (at fs (primary (number w.at (or_zero (number_of w.text))))) w rest r is
-      (ap (λ t. only t (at fs (primary (number w.at (or_zero (number_of w.text)))))) (bound len w.at (is_some (number_of w.text)) fit)) reads
+      (ap (λ t. only t NumberTooWide (at fs (primary (number w.at (or_zero (number_of w.text)))))) (bound len w.at (is_some (number_of w.text)) fit)) reads
   primary_read {len = len} (a_string {rest = rest} w is) fs levels r reads =
       on_class len fs wanted Class.Quoted (at fs (primary (string w.at (value_of w.text)))) w rest r is refl reads
   primary_read {len = len} (in_brackets {n = n} {o = o} {text = text} {rest = rest} {t = t} w e is may x is_e) fs levels r reads =

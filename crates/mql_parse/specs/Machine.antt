@@ -1,6 +1,6 @@
 -- A machine that reads a query, one word at a time. That it reads what `specs/Grammar.antt` says is
 -- proved.
-use Rattle.std.specs.Prelude.{ℕ, zero, suc, ◌==◌, ◌&&◌, nat_lt, nat_le, Bool, true, false, List, [], ◌∷◌, ◌++◌, Option, Some, None, is_some, if◌then◌else◌}
+use Rattle.std.specs.Prelude.{ℕ, zero, suc, ◌==◌, ◌&&◌, nat_lt, nat_le, Bool, true, false, List, [], ◌∷◌, ◌++◌, Option, Some, None, is_some, Result, Ok, Err, if◌then◌else◌}
 use Rattle.std.specs.Option.{option_map}
 use Rattle.mql_lex.specs.declared.group.Group.{Group}
 use Rattle.mql_lex.specs.declared.group.Many.{Many}
@@ -24,6 +24,8 @@ use Rattle.mql_lists.specs.declared.braces.BracesReader.{BracesReader}
 use Rattle.mql_expr.specs.Tree.{Tree, number, string, select, ranged, call, binary, negate, with_templates, trees_of, TreeTemplate, templates_listed}
 use Rattle.mql_lists.specs.Values.{value_of}
 use Rattle.mql_parse.specs.Values.{number_of, or_zero, length_of, is_short, ahead, back}
+use Rattle.mql_parse.specs.declared.fault.Wrong.{Wrong}
+use Rattle.mql_parse.specs.declared.fault.Wrong.TheVariants.{Unexpected, TooDeep, NumberTooWide}
 use Rattle.mql_parse.specs.Grammar.{level, is_comparison, deepest, matching}
 
 -- a call as far as it was read
@@ -111,9 +113,12 @@ pub record State : Type 0 where
 abbrev pub at : List Frame → Before → State
 at frames before = record { frames = frames; before = before }
 
-abbrev pub only : Bool → State → Option State
-only true s = Some s
-only false s = None
+abbrev pub reached : State → Result State Wrong
+reached s = Ok s
+
+abbrev pub only : Bool → Wrong → State → Result State Wrong
+only true wrong s = Ok s
+only false wrong s = Err wrong
 
 -- ---- levels
 
@@ -137,8 +142,8 @@ fits true under = under
 fits false under = true
 
 -- where a word at this place may open one more
-abbrev pub opening : (len place : ℕ) → List Frame → State → Option State
-opening len place fs s = only (fits (nat_lt place len) (nat_lt (opened fs) deepest)) s
+abbrev pub opening : (len place : ℕ) → List Frame → State → Result State Wrong
+opening len place fs s = only (fits (nat_lt place len) (nat_lt (opened fs) deepest)) TooDeep s
 
 -- ---- operands
 
@@ -176,22 +181,22 @@ abbrev pub with_one_more : Scope → Head → List Param → Tree → Scope
 with_one_more s h ps t = record { at = s.at; templates = s.templates ++ record { at = h.at; name = h.name; params = ps; body = t } ∷ [] }
 
 -- behind `)`
-abbrev pub close_frame : List Frame → Tree → Option State
-close_frame (in_parens ∷ fs) t = Some (at fs (primary t))
-close_frame (in_args c ∷ fs) t = Some (at fs (called (one_more c t)))
-close_frame (in_template s h ps ∷ fs) t = Some (at (in_body (with_one_more s h ps t) ∷ fs) wanted)
-close_frame _ t = None
+abbrev pub close_frame : List Frame → Tree → Result State Wrong
+close_frame (in_parens ∷ fs) t = Ok (at fs (primary t))
+close_frame (in_args c ∷ fs) t = Ok (at fs (called (one_more c t)))
+close_frame (in_template s h ps ∷ fs) t = Ok (at (in_body (with_one_more s h ps t) ∷ fs) wanted)
+close_frame _ t = Err Unexpected
 
-abbrev pub close : Reduced → Option State
+abbrev pub close : Reduced → Result State Wrong
 close r = close_frame r.frames r.tree
 
 -- behind `,`
-abbrev pub continue_frame : List Frame → Tree → Option State
-continue_frame (in_args c ∷ fs) t = Some (at (in_args (one_more c t) ∷ fs) wanted)
-continue_frame (in_template s h ps ∷ fs) t = Some (at fs (template_wanted (with_one_more s h ps t)))
-continue_frame _ t = None
+abbrev pub continue_frame : List Frame → Tree → Result State Wrong
+continue_frame (in_args c ∷ fs) t = Ok (at (in_args (one_more c t) ∷ fs) wanted)
+continue_frame (in_template s h ps ∷ fs) t = Ok (at fs (template_wanted (with_one_more s h ps t)))
+continue_frame _ t = Err Unexpected
 
-abbrev pub continue : Reduced → Option State
+abbrev pub continue : Reduced → Result State Wrong
 continue r = continue_frame r.frames r.tree
 
 -- what comes of an expression where the text ends
@@ -204,27 +209,27 @@ end r = end_frame r.frames r.tree
 
 -- ---- moves
 
-abbrev pub go_on : List Frame → Tree → Word → Class → Option State
-go_on fs t w (Class.Operator op) = Some (operate (reduce (level op) fs t) w op)
+abbrev pub go_on : List Frame → Tree → Word → Class → Result State Wrong
+go_on fs t w (Class.Operator op) = Ok (operate (reduce (level op) fs t) w op)
 go_on fs t w Class.CloseRound = close (reduce 0 fs t)
 go_on fs t w Class.Comma = continue (reduce 0 fs t)
-go_on fs t w _ = None
+go_on fs t w _ = Err Unexpected
 
-abbrev pub by_window : List Frame → (at : ℕ) → Tree → Span → Word → Class → Option State
-by_window fs place t span w Class.Offset = Some (at fs (offset_wanted place t (Some span)))
+abbrev pub by_window : List Frame → (at : ℕ) → Tree → Span → Word → Class → Result State Wrong
+by_window fs place t span w Class.Offset = Ok (at fs (offset_wanted place t (Some span)))
 by_window fs place t span w c = go_on fs (ranged place t (Some span) None) w c
 
-abbrev pub by_primary : List Frame → Tree → Word → Class → Option State
-by_primary fs t w Class.OpenSquare = Some (at fs (window_wanted w.at t))
-by_primary fs t w Class.Offset = Some (at fs (offset_wanted w.at t None))
+abbrev pub by_primary : List Frame → Tree → Word → Class → Result State Wrong
+by_primary fs t w Class.OpenSquare = Ok (at fs (window_wanted w.at t))
+by_primary fs t w Class.Offset = Ok (at fs (offset_wanted w.at t None))
 by_primary fs t w c = go_on fs t w c
 
-abbrev pub by_regrouped : List Frame → Call → Word → Class → Option State
-by_regrouped fs c w Class.Keep = Some (at fs (primary (calling c true)))
+abbrev pub by_regrouped : List Frame → Call → Word → Class → Result State Wrong
+by_regrouped fs c w Class.Keep = Ok (at fs (primary (calling c true)))
 by_regrouped fs c w class = by_primary fs (calling c false) w class
 
-abbrev pub by_called : List Frame → Call → Word → Class → Option State
-by_called fs c w (Class.Grouping by) = Some (at fs (names_wanted (after_args c by)))
+abbrev pub by_called : List Frame → Call → Word → Class → Result State Wrong
+by_called fs c w (Class.Grouping by) = Ok (at fs (names_wanted (after_args c by)))
 by_called fs c w class = by_regrouped fs c w class
 
 abbrev pub call_of : Head → Call
@@ -233,80 +238,80 @@ call_of h = record { at = h.at; name = h.name; args = []; before = None; after =
 abbrev pub metric : Head → Tree
 metric h = select h.at (Some h.name) []
 
-abbrev pub by_named : (len : ℕ) → List Frame → Head → Word → Class → Option State
+abbrev pub by_named : (len : ℕ) → List Frame → Head → Word → Class → Result State Wrong
 by_named len fs h w Class.OpenRound = opening len w.at fs (at (in_args (call_of h) ∷ fs) wanted)
-by_named len fs h w Class.OpenCurly = Some (at fs (in_braces h.at (Some h.name) braces_start))
-by_named len fs h w (Class.Grouping by) = Some (at fs (names_wanted (before_args (call_of h) by)))
+by_named len fs h w Class.OpenCurly = Ok (at fs (in_braces h.at (Some h.name) braces_start))
+by_named len fs h w (Class.Grouping by) = Ok (at fs (names_wanted (before_args (call_of h) by)))
 by_named len fs h w c = by_primary fs (metric h) w c
 
 -- behind the `)` of arguments, where none stands before it
-abbrev pub no_more : List Frame → Option State
-no_more (in_args c ∷ fs) = Some (at fs (called c))
-no_more _ = None
+abbrev pub no_more : List Frame → Result State Wrong
+no_more (in_args c ∷ fs) = Ok (at fs (called c))
+no_more _ = Err Unexpected
 
 abbrev pub head_of : Word → Head
 head_of w = record { at = w.at; name = w.text }
 
-abbrev pub by_wanted : (len : ℕ) → List Frame → Word → Class → Option State
+abbrev pub by_wanted : (len : ℕ) → List Frame → Word → Class → Result State Wrong
 by_wanted len fs w Class.Numeral =
-    only (fits (nat_lt w.at len) (is_some (number_of w.text))) (at fs (primary (number w.at (or_zero (number_of w.text)))))
-by_wanted len fs w Class.Quoted = Some (at fs (primary (string w.at (value_of w.text))))
-by_wanted len fs w Class.Identifier = Some (at fs (named (head_of w)))
-by_wanted len fs w Class.OpenCurly = Some (at fs (in_braces w.at None braces_start))
+    only (fits (nat_lt w.at len) (is_some (number_of w.text))) NumberTooWide (at fs (primary (number w.at (or_zero (number_of w.text)))))
+by_wanted len fs w Class.Quoted = Ok (at fs (primary (string w.at (value_of w.text))))
+by_wanted len fs w Class.Identifier = Ok (at fs (named (head_of w)))
+by_wanted len fs w Class.OpenCurly = Ok (at fs (in_braces w.at None braces_start))
 by_wanted len fs w Class.OpenRound = opening len w.at fs (at (in_parens ∷ fs) wanted)
 by_wanted len fs w Class.CloseRound = no_more fs
-by_wanted len fs w Class.With = Some (at fs (with_read w.at))
+by_wanted len fs w Class.With = Ok (at fs (with_read w.at))
 by_wanted len fs w (Class.Operator Op.Sub) = opening len w.at fs (at (in_minus w.at ∷ fs) wanted)
 by_wanted len fs w (Class.Operator Op.Add) = opening len w.at fs (at (in_plus ∷ fs) wanted)
-by_wanted len fs w _ = None
+by_wanted len fs w _ = Err Unexpected
 
 -- where a duration is wanted
-abbrev pub measured : (len : ℕ) → Word → State → Option State
-measured len w s = only (fits (nat_lt w.at len) (is_short (length_of w.text))) s
+abbrev pub measured : (len : ℕ) → Word → State → Result State Wrong
+measured len w s = only (fits (nat_lt w.at len) (is_short (length_of w.text))) NumberTooWide s
 
-abbrev pub by_window_wanted : (len : ℕ) → List Frame → (place : ℕ) → Tree → Word → Class → Option State
+abbrev pub by_window_wanted : (len : ℕ) → List Frame → (place : ℕ) → Tree → Word → Class → Result State Wrong
 by_window_wanted len fs place t w Class.Time = measured len w (at fs (window_read place t (ahead (length_of w.text))))
-by_window_wanted len fs place t w _ = None
+by_window_wanted len fs place t w _ = Err Unexpected
 
-abbrev pub by_window_read : List Frame → (place : ℕ) → Tree → Span → Class → Option State
-by_window_read fs place t span Class.CloseSquare = Some (at fs (windowed place t span))
-by_window_read fs place t span _ = None
+abbrev pub by_window_read : List Frame → (place : ℕ) → Tree → Span → Class → Result State Wrong
+by_window_read fs place t span Class.CloseSquare = Ok (at fs (windowed place t span))
+by_window_read fs place t span _ = Err Unexpected
 
-abbrev pub by_offset_wanted : (len : ℕ) → List Frame → (place : ℕ) → Tree → Option Span → Word → Class → Option State
+abbrev pub by_offset_wanted : (len : ℕ) → List Frame → (place : ℕ) → Tree → Option Span → Word → Class → Result State Wrong
 by_offset_wanted len fs place t window w Class.Time = measured len w (at fs (complete (ranged place t window (Some (ahead (length_of w.text))))))
-by_offset_wanted len fs place t window w (Class.Operator Op.Sub) = Some (at fs (offset_back place t window))
-by_offset_wanted len fs place t window w _ = None
+by_offset_wanted len fs place t window w (Class.Operator Op.Sub) = Ok (at fs (offset_back place t window))
+by_offset_wanted len fs place t window w _ = Err Unexpected
 
-abbrev pub by_offset_back : (len : ℕ) → List Frame → (place : ℕ) → Tree → Option Span → Word → Class → Option State
+abbrev pub by_offset_back : (len : ℕ) → List Frame → (place : ℕ) → Tree → Option Span → Word → Class → Result State Wrong
 by_offset_back len fs place t window w Class.Time = measured len w (at fs (complete (ranged place t window (Some (back (length_of w.text))))))
-by_offset_back len fs place t window w _ = None
+by_offset_back len fs place t window w _ = Err Unexpected
 
 -- behind an operator with all that belongs to it
 abbrev pub joining : List Frame → Joint → Matching → List Frame
 joining fs j m = in_operator j m ∷ fs
 
-abbrev pub by_many : (len : ℕ) → List Frame → Joint → MatchKind → List (List ℕ) → Many → Word → Class → Option State
-by_many len fs j kind names side w Class.OpenRound = Some (at fs (in_names (taken_over j kind names side) names_start))
+abbrev pub by_many : (len : ℕ) → List Frame → Joint → MatchKind → List (List ℕ) → Many → Word → Class → Result State Wrong
+by_many len fs j kind names side w Class.OpenRound = Ok (at fs (in_names (taken_over j kind names side) names_start))
 by_many len fs j kind names side w c = by_wanted len (joining fs j (matching kind names side [])) w c
 
-abbrev pub by_matched : (len : ℕ) → List Frame → Joint → MatchKind → List (List ℕ) → Word → Class → Option State
-by_matched len fs j kind names w (Class.Joining side) = Some (at fs (many_read j kind names side))
+abbrev pub by_matched : (len : ℕ) → List Frame → Joint → MatchKind → List (List ℕ) → Word → Class → Result State Wrong
+by_matched len fs j kind names w (Class.Joining side) = Ok (at fs (many_read j kind names side))
 by_matched len fs j kind names w c = by_wanted len (joining fs j (matching kind names One [])) w c
 
-abbrev pub by_compared : (len : ℕ) → List Frame → Joint → Word → Class → Option State
-by_compared len fs j w (Class.Pairing kind) = Some (at fs (names_wanted (matched_by j kind)))
+abbrev pub by_compared : (len : ℕ) → List Frame → Joint → Word → Class → Result State Wrong
+by_compared len fs j w (Class.Pairing kind) = Ok (at fs (names_wanted (matched_by j kind)))
 by_compared len fs j w c = by_wanted len (joining fs j (matching All [] One [])) w c
 
 abbrev pub true_joint : Joint → Joint
 true_joint j = record { at = j.at; op = j.op; truth = true; operand = j.operand }
 
-abbrev pub by_operated : (len : ℕ) → List Frame → Joint → Word → Class → Option State
-by_operated len fs j w Class.Truth = only (is_comparison j.op) (at fs (compared (true_joint j)))
+abbrev pub by_operated : (len : ℕ) → List Frame → Joint → Word → Class → Result State Wrong
+by_operated len fs j w Class.Truth = only (is_comparison j.op) Unexpected (at fs (compared (true_joint j)))
 by_operated len fs j w c = by_compared len fs j w c
 
-abbrev pub by_names_wanted : List Frame → Purpose → Class → Option State
-by_names_wanted fs p Class.OpenRound = Some (at fs (in_names p names_start))
-by_names_wanted fs p _ = None
+abbrev pub by_names_wanted : List Frame → Purpose → Class → Result State Wrong
+by_names_wanted fs p Class.OpenRound = Ok (at fs (in_names p names_start))
+by_names_wanted fs p _ = Err Unexpected
 
 -- behind names in parentheses
 abbrev pub named_for : List Frame → Purpose → List (List ℕ) → State
@@ -316,33 +321,33 @@ named_for fs (matched_by j kind) names = at fs (matched j kind names)
 named_for fs (taken_over j kind by_names side) names = at (joining fs j (matching kind by_names side names)) wanted
 
 -- one step of the machine of a part, whose state stands in one of this machine
-abbrev pub within_part : {S V : Type 0} → (S → State) → (V → State) → Option (Progress S V) → Option State
-within_part on off None = None
-within_part on off (Some (Goes s)) = Some (on s)
-within_part on off (Some (Done v)) = Some (off v)
+abbrev pub within_part : {S V : Type 0} → (S → State) → (V → State) → Option (Progress S V) → Result State Wrong
+within_part on off None = Err Unexpected
+within_part on off (Some (Goes s)) = Ok (on s)
+within_part on off (Some (Done v)) = Ok (off v)
 
-abbrev pub by_grouped : (len : ℕ) → List Frame → Call → Word → Class → Option State
+abbrev pub by_grouped : (len : ℕ) → List Frame → Call → Word → Class → Result State Wrong
 by_grouped len fs c w Class.OpenRound = opening len w.at fs (at (in_args c ∷ fs) wanted)
-by_grouped len fs c w _ = None
+by_grouped len fs c w _ = Err Unexpected
 
-abbrev pub by_with_read : (len : ℕ) → List Frame → (place : ℕ) → Word → Class → Option State
+abbrev pub by_with_read : (len : ℕ) → List Frame → (place : ℕ) → Word → Class → Result State Wrong
 by_with_read len fs place w Class.OpenRound = opening len w.at fs (at fs (template_wanted (record { at = place; templates = [] })))
-by_with_read len fs place w _ = None
+by_with_read len fs place w _ = Err Unexpected
 
-abbrev pub by_template_wanted : List Frame → Scope → Word → Class → Option State
-by_template_wanted fs s w Class.Identifier = Some (at fs (template_named s (head_of w)))
-by_template_wanted fs s w Class.CloseRound = Some (at (in_body s ∷ fs) wanted)
-by_template_wanted fs s w _ = None
+abbrev pub by_template_wanted : List Frame → Scope → Word → Class → Result State Wrong
+by_template_wanted fs s w Class.Identifier = Ok (at fs (template_named s (head_of w)))
+by_template_wanted fs s w Class.CloseRound = Ok (at (in_body s ∷ fs) wanted)
+by_template_wanted fs s w _ = Err Unexpected
 
-abbrev pub by_template_headed : List Frame → Scope → Head → List Param → Class → Option State
-by_template_headed fs s h ps Class.Assign = Some (at (in_template s h ps ∷ fs) wanted)
-by_template_headed fs s h ps _ = None
+abbrev pub by_template_headed : List Frame → Scope → Head → List Param → Class → Result State Wrong
+by_template_headed fs s h ps Class.Assign = Ok (at (in_template s h ps ∷ fs) wanted)
+by_template_headed fs s h ps _ = Err Unexpected
 
-abbrev pub by_template_named : List Frame → Scope → Head → Class → Option State
-by_template_named fs s h Class.OpenRound = Some (at fs (in_params s h params_start))
+abbrev pub by_template_named : List Frame → Scope → Head → Class → Result State Wrong
+by_template_named fs s h Class.OpenRound = Ok (at fs (in_params s h params_start))
 by_template_named fs s h c = by_template_headed fs s h [] c
 
-abbrev pub by : (len : ℕ) → List Frame → Before → Word → Class → Option State
+abbrev pub by : (len : ℕ) → List Frame → Before → Word → Class → Result State Wrong
 by len fs wanted w c = by_wanted len fs w c
 by len fs (named h) w c = by_named len fs h w c
 by len fs (grouped x) w c = by_grouped len fs x w c
@@ -369,8 +374,12 @@ by len fs (template_named s h) w c = by_template_named fs s h c
 by len fs (in_params s h state) w c = within_part (λ t. at fs (in_params s h t)) (λ ps. at fs (template_headed s h ps)) (params_step state w)
 by len fs (template_headed s h ps) w c = by_template_headed fs s h ps c
 
+abbrev pub moved : Result State Wrong → Option State
+moved (Ok s) = Some s
+moved (Err wrong) = None
+
 abbrev pub step : (len : ℕ) → State → Word → Option State
-step len s w = by len s.frames s.before w (class_of_word w)
+step len s w = moved (by len s.frames s.before w (class_of_word w))
 
 -- the expression that stands before the next word, where one may end there
 abbrev pub standing : Before → Option Tree

@@ -1,6 +1,8 @@
 //! Expressions.
 #![tactic(auto)]
 
+mod fault;
+
 ghost use Rattle.std.specs.Prelude.{List, ◌≡◌, Some};
 ghost use Rattle.vm_base.specs.Run.{result};
 ghost use Rattle.mql_parse.specs.Grammar.{IsExpr, IsAnyExpr};
