@@ -3,3 +3,4 @@ mod Held
 mod Moves
 mod Parts
 mod ToRead
+mod Viable

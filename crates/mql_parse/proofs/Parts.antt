@@ -1,5 +1,5 @@
 -- What the machines of parts read: stated here until it is proved with them.
-use Rattle.std.specs.Prelude.{◌≡◌, ℕ, List, [], ◌∷◌, Option, Some, None}
+use Rattle.std.specs.Prelude.{◌≡◌, ℕ, List, [], ◌∷◌, ◌++◌, Option, Some, None}
 use Rattle.mql_expr.specs.declared.item.Item.{Item}
 use Rattle.mql_expr.specs.declared.expr.Param.{Param}
 use Rattle.mql_lists.specs.Words.{Word}
@@ -24,3 +24,12 @@ params_from x = ?
 
 pub braces_from : {text rest : List Word} {v : List (List Item)} → leads braces_step braces_start text ≡ Some (v, rest) → Braces text rest v
 braces_from x = ?
+
+pub names_viable : (at : ℕ) (s : Rattle.mql_lists.specs.declared.names.NamesReader.NamesReader) (rest : List Word) → (text : List Word) × (v : List (List ℕ)) × (leads names_step s (text ++ rest) ≡ Some (v, rest))
+names_viable at s rest = ?
+
+pub params_viable : (at : ℕ) (s : Rattle.mql_lists.specs.declared.params.ParamsReader.ParamsReader) (rest : List Word) → (text : List Word) × (v : List Param) × (leads params_step s (text ++ rest) ≡ Some (v, rest))
+params_viable at s rest = ?
+
+pub braces_viable : (at : ℕ) (s : Rattle.mql_lists.specs.declared.braces.BracesReader.BracesReader) (rest : List Word) → (text : List Word) × (v : List (List Item)) × (leads braces_step s (text ++ rest) ≡ Some (v, rest))
+braces_viable at s rest = ?

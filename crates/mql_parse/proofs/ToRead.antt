@@ -247,7 +247,7 @@ looser_after len l o fs t s after = record {
 }
 
 -- an operator of a level ends the frames that bind as tightly
-through : (k : ℕ) (j : Joint) (m : Matching) (fs : List Frame) (t : Tree) → k ≤ level j.op → reduce k (in_operator j m ∷ fs) t ≡ reduce k fs (joined j m t)
+pub through : (k : ℕ) (j : Joint) (m : Matching) (fs : List Frame) (t : Tree) → k ≤ level j.op → reduce k (in_operator j m ∷ fs) t ≡ reduce k fs (joined j m t)
 through k j m fs t le = let yes : nat_le k (level j.op) ≡ true = grind (arith, nat_tests) in rw yes refl
 
 joined_after : (len : ℕ) (o : Bool) (j : Joint) (m : Matching) (fs : List Frame) (t : Tree) (s : State)
