@@ -1,6 +1,6 @@
 -- The machines that read names, parameters and braces. What they read is what `specs/Grammar.antt`
 -- says: that is proved.
-use Rattle.std.specs.Prelude.{ℕ, Bool, true, false, List, [], ◌∷◌, ◌++◌, Option, Some, None, option_map}
+use Rattle.std.specs.Prelude.{ℕ, Bool, true, false, List, [], ◌∷◌, ◌++◌, Option, Some, None, if◌then◌else◌}
 use Rattle.mql_lex.specs.declared.operator.Op.{Op}
 use Rattle.mql_lex.specs.declared.operator.Op.TheVariants.{Default, If, IfNot, Or, And, Unless, Differs}
 use Rattle.mql_expr.specs.declared.item.Item.{Item}
@@ -23,6 +23,9 @@ use Rattle.mql_lists.specs.declared.params.ParamsReader.{ParamsReader}
 use Rattle.mql_lists.specs.declared.params.Spot.{Spot}
 use Rattle.mql_lists.specs.declared.params.Spot.TheVariants.{Opened, BehindName, BehindComma}
 use Rattle.mql_lists.specs.declared.braces.BracesReader.{BracesReader}
+use Rattle.mql_lists.specs.declared.braces.Begun.{Begun}
+use Rattle.mql_lists.specs.declared.braces.Gathered.{Gathered}
+use Rattle.mql_lists.specs.declared.braces.Heading.{Heading}
 use Rattle.mql_lists.specs.declared.braces.Place.{Place}
 use Rattle.mql_lists.specs.declared.braces.Place.TheVariants.{First, Wanted, AtName, AtSign, BehindItem, AfterComma, AfterOr}
 
@@ -60,18 +63,31 @@ role_of _ = Other
 unfoldable pub word_role : Word → Role
 word_role word = role_of (class_of_word word)
 
+-- a name, also a reserved word
+abbrev pub is_label : Role → Bool
+is_label Free = true
+is_label Either = true
+is_label Reserved = true
+is_label _ = false
+
+abbrev pub is_free : Role → Bool
+is_free Free = true
+is_free _ = false
+
 -- ---- names
 
--- more names are wanted, or a name was read
+abbrev pub ended_names : List (List ℕ) → Role → Option (Progress NamesReader (List (List ℕ)))
+ended_names names EndRound = Some (Done names)
+ended_names names _ = None
+
+-- where a name may come next, and behind a name
 abbrev pub names_at : Bool → List (List ℕ) → List ℕ → Role
     → Option (Progress NamesReader (List (List ℕ)))
-names_at true names text Free = Some (Goes (record { names = names ++ text ∷ []; wanted = false }))
-names_at true names text Either = Some (Goes (record { names = names ++ text ∷ []; wanted = false }))
-names_at true names text Reserved = Some (Goes (record { names = names ++ text ∷ []; wanted = false }))
-names_at true names text EndRound = Some (Done names)
+names_at true names text role =
+    if is_label role then Some (Goes (record { names = names ++ text ∷ []; wanted = false }))
+    else ended_names names role
 names_at false names text Next = Some (Goes (record { names = names; wanted = true }))
-names_at false names text EndRound = Some (Done names)
-names_at _ names text _ = None
+names_at false names text role = ended_names names role
 
 abbrev pub names_start : NamesReader
 names_start = record { names = []; wanted = true }
@@ -101,62 +117,78 @@ params_step state word = params_at state.spot state.params (param word) (word_ro
 abbrev pub Turn : Type 0
 Turn = Option (Progress BracesReader (List (List Item)))
 
-abbrev pub goes : List (List Item) → List Item → Place → Turn
-goes lists items place = Some (Goes (record { lists = lists; items = items; place = place }))
+abbrev pub goes : Gathered → Place → Turn
+goes found place = Some (Goes (record { found = found; place = place }))
+
+-- the last list ends, and with it all
+abbrev pub done : Gathered → Turn
+done found = Some (Done (found.lists ++ found.items ∷ []))
+
+abbrev pub with_item : Gathered → Item → Gathered
+with_item found item = record { lists = found.lists; items = found.items ++ item ∷ [] }
+
+-- the list ends, and another begins
+abbrev pub with_list : Gathered → Gathered
+with_list found = record { lists = found.lists ++ found.items ∷ []; items = [] }
+
+abbrev pub named_item : Heading → Item
+named_item head = Named head.at head.name
+
+abbrev pub filter_item : Begun → List ℕ → Item
+filter_item begun value = Is (record { name = begun.name; op = begun.op; value = value })
 
 -- a name at the beginning of an item
-abbrev pub begins_item : List (List Item) → List Item → Word → Role → Turn
-begins_item lists items word Free = goes lists items (AtName word.at word.text true)
-begins_item lists items word Either = goes lists items (AtName word.at word.text false)
-begins_item lists items word Reserved = goes lists items (AtName word.at word.text false)
-begins_item lists items word _ = None
+abbrev pub begins_item : Gathered → Word → Role → Turn
+begins_item found word role =
+    if is_label role
+    then goes found (AtName (record { at = word.at; name = word.text; free = is_free role }))
+    else None
 
--- behind the word that opens the braces
-abbrev pub at_first : List (List Item) → List Item → Word → Role → Turn
-at_first lists items word EndCurly = Some (Done (lists ++ items ∷ []))
-at_first lists items word role = begins_item lists items word role
+-- behind `{`
+abbrev pub at_first : Gathered → Word → Role → Turn
+at_first found word EndCurly = done found
+at_first found word role = begins_item found word role
 
--- behind an item
-abbrev pub behind_item : List (List Item) → List Item → Role → Turn
-behind_item lists items Next = goes lists items AfterComma
-behind_item lists items Either = goes (lists ++ items ∷ []) [] Wanted
-behind_item lists items EndCurly = Some (Done (lists ++ items ∷ []))
-behind_item lists items _ = None
+abbrev pub behind_item : Gathered → Role → Turn
+behind_item found Next = goes found AfterComma
+behind_item found Either = goes (with_list found) Wanted
+behind_item found EndCurly = done found
+behind_item found _ = None
 
 -- behind a name, which is an item where it is no reserved word
-abbrev pub behind_name : List (List Item) → List Item → ℕ → List ℕ → Bool → Role → Turn
-behind_name lists items at name free (Compare op) = goes lists items (AtSign name op)
-behind_name lists items at name true role = behind_item lists (items ++ Named at name ∷ []) role
-behind_name lists items at name false role = None
+abbrev pub behind_name : Gathered → Heading → Role → Turn
+behind_name found head (Compare op) = goes found (AtSign (record { name = head.name; op = op }))
+behind_name found head role =
+    if head.free then behind_item (with_item found (named_item head)) role else None
 
--- behind an operator
-abbrev pub behind_sign : List (List Item) → List Item → List ℕ → FilterOp → Word → Role → Turn
-behind_sign lists items name op word Value =
-    goes lists (items ++ Is (record { name = name; op = op; value = value_of word.text }) ∷ []) BehindItem
-behind_sign lists items name op word _ = None
+-- behind the operator of a filter
+abbrev pub behind_sign : Gathered → Begun → Word → Role → Turn
+behind_sign found begun word Value =
+    goes (with_item found (filter_item begun (value_of word.text))) BehindItem
+behind_sign found begun word _ = None
 
--- behind a comma, where `or` may be a name or end the list
-abbrev pub after_comma : List (List Item) → List Item → Word → Role → Turn
-after_comma lists items word Either = goes lists items (AfterOr word.text)
-after_comma lists items word EndCurly = Some (Done (lists ++ items ∷ []))
-after_comma lists items word role = begins_item lists items word role
+-- behind a comma, where `or` may be a name or part two lists
+abbrev pub after_comma : Gathered → Word → Role → Turn
+after_comma found word Either = goes found (AfterOr word.text)
+after_comma found word EndCurly = done found
+after_comma found word role = begins_item found word role
 
 -- behind this `or`
-abbrev pub after_or : List (List Item) → List Item → List ℕ → Word → Role → Turn
-after_or lists items name word (Compare op) = goes lists items (AtSign name op)
-after_or lists items name word role = begins_item (lists ++ items ∷ []) [] word role
+abbrev pub after_or : Gathered → List ℕ → Word → Role → Turn
+after_or found name word (Compare op) = goes found (AtSign (record { name = name; op = op }))
+after_or found name word role = begins_item (with_list found) word role
 
-abbrev pub braces_at : Place → List (List Item) → List Item → Word → Role → Turn
-braces_at First lists items word role = at_first lists items word role
-braces_at Wanted lists items word role = begins_item lists items word role
-braces_at (AtName at name free) lists items word role = behind_name lists items at name free role
-braces_at (AtSign name op) lists items word role = behind_sign lists items name op word role
-braces_at BehindItem lists items word role = behind_item lists items role
-braces_at AfterComma lists items word role = after_comma lists items word role
-braces_at (AfterOr name) lists items word role = after_or lists items name word role
+abbrev pub braces_at : Place → Gathered → Word → Role → Turn
+braces_at First found word role = at_first found word role
+braces_at Wanted found word role = begins_item found word role
+braces_at (AtName head) found word role = behind_name found head role
+braces_at (AtSign begun) found word role = behind_sign found begun word role
+braces_at BehindItem found word role = behind_item found role
+braces_at AfterComma found word role = after_comma found word role
+braces_at (AfterOr name) found word role = after_or found name word role
 
 abbrev pub braces_start : BracesReader
-braces_start = record { lists = []; items = []; place = First }
+braces_start = record { found = record { lists = []; items = [] }; place = First }
 
 abbrev pub braces_step : BracesReader → Word → Turn
-braces_step state word = braces_at state.place state.lists state.items word (word_role word)
+braces_step state word = braces_at state.place state.found word (word_role word)

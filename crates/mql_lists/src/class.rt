@@ -113,11 +113,18 @@ fn reserved_class(name: &[u8], rows: &[(&str, Class)]) -> Option<Class>
         ≡ class_in (map (λ row. (row.0.now, row.1)) rows.now) (str_eq_ignore_ascii_case name.now) other }
 {
     for (word, class) in rows {
-        if name.eq_ignore_ascii_case(word.as_bytes()) {
+        if is_word(name, word) {
             return Some(*class);
         }
     }
     None
+}
+
+/// Whether a name is a word, without regard to ASCII case.
+fn is_word(name: &[u8], word: &str) -> bool
+    ensures { result ≡ str_eq_ignore_ascii_case name.now word.now }
+{
+    name.eq_ignore_ascii_case(word.as_bytes())
 }
 
 #[tactic(auto, unfolding(crate::specs::Classes::class_of_mark))]

@@ -3,6 +3,7 @@
 
 mod braces;
 mod class;
+mod laws;
 mod names;
 mod params;
 mod progress;
@@ -11,6 +12,7 @@ mod word;
 
 pub use braces::BracesReader;
 pub use class::{Class, class_of, filter_op, level_of};
+pub use laws::{braces_are_read, names_are_read, params_are_read};
 pub use names::NamesReader;
 pub use params::ParamsReader;
 pub use progress::Progress;

@@ -1,6 +1,6 @@
 //! Names in parentheses, as those of `by (job, instance)`.
 
-ghost use Rattle.std.specs.Prelude.{◌≡◌, ◌≤◌, ◌+◌, length, IfOk};
+ghost use Rattle.std.specs.Prelude.{◌≡◌, ◌++◌, ◌∷◌, [], IfOk};
 ghost use Rattle.mql_lex.specs.Tokens.{StandsIn};
 ghost use Rattle.mql_lists.specs.Words.{word_of};
 ghost use Rattle.mql_lists.specs.Machines.{names_start, names_step};
@@ -43,21 +43,30 @@ impl NamesReader {
         requires { StandsIn text.now token }
         ensures { IfOk result (λ progress. progress ≡ names_step self (word_of text.now token)) }
     {
-        let NamesReader { mut names, wanted } = self;
-        match (wanted, role_of_token(text, token)) {
-            (_, Role::EndRound) => Ok(Some(Progress::Done(names))),
-            (true, Role::Free | Role::Either | Role::Reserved) => {
-                names.push(name_text(alloc, text, token)?)?;
-                Ok(Some(Progress::Goes(NamesReader {
-                    names,
-                    wanted: false,
-                })))
-            }
-            (false, Role::Next) => Ok(Some(Progress::Goes(NamesReader {
+        let NamesReader { names, wanted } = self;
+        let role = role_of_token(text, token);
+        if wanted && role.is_label() {
+            let names = with_name(names, name_text(alloc, text, token)?)?;
+            return Ok(Some(Progress::Goes(NamesReader {
+                names,
+                wanted: false,
+            })));
+        }
+        match role {
+            Role::Next if !wanted => Ok(Some(Progress::Goes(NamesReader {
                 names,
                 wanted: true,
             }))),
+            Role::EndRound => Ok(Some(Progress::Done(names))),
             _ => Ok(None),
         }
     }
+}
+
+fn with_name(names: List<Text>, name: Text) -> Result<List<Text>, AllocError>
+    ensures { IfOk result (λ all. all ≡ names ++ name ∷ []) }
+{
+    let mut all = names;
+    all.push(name)?;
+    Ok(all)
 }

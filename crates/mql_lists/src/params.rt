@@ -1,6 +1,6 @@
 //! The parameters of a template, as those of `f(x, y) = x / y`.
 
-ghost use Rattle.std.specs.Prelude.{◌≡◌, ◌≤◌, ◌+◌, length, IfOk};
+ghost use Rattle.std.specs.Prelude.{◌≡◌, ◌++◌, ◌∷◌, [], IfOk};
 ghost use Rattle.mql_lex.specs.Tokens.{StandsIn};
 ghost use Rattle.mql_lists.specs.Words.{word_of};
 ghost use Rattle.mql_lists.specs.Machines.{params_start, params_step};
@@ -52,22 +52,30 @@ impl ParamsReader {
         requires { StandsIn text.now token }
         ensures { IfOk result (λ progress. progress ≡ params_step self (word_of text.now token)) }
     {
-        let ParamsReader { mut params, spot } = self;
-        match (spot, role_of_token(text, token)) {
-            (Spot::Opened | Spot::BehindName, Role::EndRound) => Ok(Some(Progress::Done(params))),
-            (Spot::Opened | Spot::BehindComma, Role::Free) => {
+        let ParamsReader { params, spot } = self;
+        match role_of_token(text, token) {
+            Role::Free if !matches!(spot, Spot::BehindName) => {
                 let name = name_text(alloc, text, token)?;
-                params.push(Param { at: token.at, name })?;
+                let params = with_param(params, Param { at: token.at, name })?;
                 Ok(Some(Progress::Goes(ParamsReader {
                     params,
                     spot: Spot::BehindName,
                 })))
             }
-            (Spot::BehindName, Role::Next) => Ok(Some(Progress::Goes(ParamsReader {
+            Role::Next if matches!(spot, Spot::BehindName) => Ok(Some(Progress::Goes(ParamsReader {
                 params,
                 spot: Spot::BehindComma,
             }))),
+            Role::EndRound if !matches!(spot, Spot::BehindComma) => Ok(Some(Progress::Done(params))),
             _ => Ok(None),
         }
     }
+}
+
+fn with_param(params: List<Param>, param: Param) -> Result<List<Param>, AllocError>
+    ensures { IfOk result (λ all. all ≡ params ++ param ∷ []) }
+{
+    let mut all = params;
+    all.push(param)?;
+    Ok(all)
 }

@@ -2,7 +2,7 @@
 
 ghost use Rattle.std.specs.Prelude.{◌≡◌, ◌≤◌, ◌+◌, length};
 ghost use Rattle.mql_lists.specs.Words.{word_of};
-ghost use Rattle.mql_lists.specs.Machines.{role_of as class_role, role_of_operator as operator_role, word_role};
+ghost use Rattle.mql_lists.specs.Machines.{role_of as class_role, role_of_operator as operator_role, word_role, is_label, is_free};
 
 use crate::class::{Class, class_of};
 use mql_lex::{Op, Token};
@@ -27,6 +27,21 @@ pub(crate) enum Role {
     /// `}`
     EndCurly,
     Other,
+}
+
+impl Role {
+    /// A name, also a reserved word.
+    pub(crate) fn is_label(self) -> bool
+        ensures { result ≡ is_label self }
+    {
+        matches!(self, Role::Free | Role::Either | Role::Reserved)
+    }
+
+    pub(crate) fn is_free(self) -> bool
+        ensures { result ≡ is_free self }
+    {
+        matches!(self, Role::Free)
+    }
 }
 
 #[tactic(auto, unfolding(crate::specs::Machines::word_role))]
