@@ -1,5 +1,7 @@
 mod FromRead
 mod Held
+pub mod Laws
+mod Limits
 mod Moves
 mod Parts
 mod ToRead

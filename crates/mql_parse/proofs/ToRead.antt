@@ -330,7 +330,7 @@ record AfterTemplate (len : ℕ) (fs : List Frame) (scope : Scope) (t : TreeTemp
   pub continues : (w : Word) → Is Class.Comma w → step len s w ≡ Some (at fs (template_wanted (with_more scope (t ∷ []))))
 
 mutual
-  expr_read : {len n l : ℕ} {o : Bool} {text rest : List Word} {t : Tree} → Reads len n l o text rest t → (fs : List Frame) → opened fs ≡ n → wants fs ≤ l
+  pub expr_read : {len n l : ℕ} {o : Bool} {text rest : List Word} {t : Tree} → Reads len n l o text rest t → (fs : List Frame) → opened fs ≡ n → wants fs ≤ l
       → (r : Tree) → ((s : State) → After len l o fs t s → Yields len s rest r) → Yields len (at fs wanted) text r
   expr_read {len = len} (looser {l = l} {o = o} {t = t} x) fs levels le r next =
       expr_read x fs levels (omega arith) r (λ s after. next s (looser_after len l o fs t s after))
