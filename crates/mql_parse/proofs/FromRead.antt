@@ -213,13 +213,13 @@ module _ (len : ℕ) (whole : List Word) where
   kept_continue (in_body scope ∷ fs) o t start w rest u built reads is move = absurd (cc move)
 
   kept_go_on : (fs : List Frame) (t : Tree) (start : List Word) (w : Word) (rest : List Word) (u : State) → Reads len (opened fs) postfix false start (w ∷ rest) t
-      → Built len whole fs start → (c : Class) → Is c w → go_on fs t w c ≡ Ok u → HeldAt len whole u rest
+      → Built len whole fs start → (c : Class) → Is c w → go_on fs t w.at c ≡ Ok u → HeldAt len whole u rest
   kept_go_on fs t start w rest u reads built (Class.Operator op) is move =
       let most = wants_most fs in
       let less = level_most op in
       let r = reducing (level op) postfix false fs t start (w ∷ rest) less (omega arith) (omega arith) (λ some. refl) built reads in
       let plain = r.tail (level_some op) in
-      landed len whole (operate (reduce (level op) fs t) w op) u rest move
+      landed len whole (operate (reduce (level op) fs t) w.at op) u rest move
       (r.start, operator_read w op (subst (λ o. Reads len (opened (reduce (level op) fs t).frames) (level op) o r.start (w ∷ rest) (reduce (level op) fs t).tree) plain r.reads) is r.low, r.built)
   kept_go_on fs t start w rest u reads built Class.CloseRound is move =
       let most = wants_most fs in
@@ -232,7 +232,7 @@ module _ (len : ℕ) (whole : List Word) where
   kept_go_on fs t start w rest u reads built _ is move = absurd (cc move)
 
   kept_primary : (fs : List Frame) (t : Tree) (start : List Word) (w : Word) (rest : List Word) (u : State) → Primary len (opened fs) start (w ∷ rest) t
-      → Built len whole fs start → (c : Class) → Is c w → by_primary fs t w c ≡ Ok u → HeldAt len whole u rest
+      → Built len whole fs start → (c : Class) → Is c w → by_primary fs t w.at c ≡ Ok u → HeldAt len whole u rest
   kept_primary fs t start w rest u x built Class.OpenSquare is move =
       landed len whole (at fs (window_wanted w.at t)) u rest move (start, w, x, is, refl, built)
   kept_primary fs t start w rest u x built Class.Offset is move =
@@ -240,19 +240,19 @@ module _ (len : ℕ) (whole : List Word) where
   kept_primary fs t start w rest u x built c is move = kept_go_on fs t start w rest u (a_primary x) built c is move
 
   kept_regrouped : (fs : List Frame) (x : Call) (start : List Word) (w : Word) (rest : List Word) (u : State) → RegroupedRead len (opened fs) x start (w ∷ rest)
-      → Built len whole fs start → (c : Class) → Is c w → by_regrouped fs x w c ≡ Ok u → HeldAt len whole u rest
+      → Built len whole fs start → (c : Class) → Is c w → by_regrouped fs x w.at c ≡ Ok u → HeldAt len whole u rest
   kept_regrouped fs x start w rest u read built Class.Keep is move =
       landed len whole (at fs (primary (calling x true))) u rest move (start, whole_call read (a_keep w is), built)
   kept_regrouped fs x start w rest u read built c is move = kept_primary fs (calling x false) start w rest u (whole_call read no_keep) built c is move
 
   kept_called : (fs : List Frame) (x : Call) (start : List Word) (w : Word) (rest : List Word) (u : State) → CallRead len (opened fs) x start (w ∷ rest)
-      → Built len whole fs start → (c : Class) → Is c w → by_called fs x w c ≡ Ok u → HeldAt len whole u rest
+      → Built len whole fs start → (c : Class) → Is c w → by_called fs x w.at c ≡ Ok u → HeldAt len whole u rest
   kept_called fs x start w rest u read built (Class.Grouping by_word) is move =
       landed len whole (at fs (names_wanted (after_args x by_word))) u rest move (start, for_after w by_word read is, built)
   kept_called fs x start w rest u read built c is move = kept_regrouped fs x start w rest u (ungrouped read) built c is move
 
   kept_named : (fs : List Frame) (h : Head) (v w : Word) (rest : List Word) (u : State) → h ≡ head_of v → Is Class.Identifier v → Built len whole fs (v ∷ w ∷ rest)
-      → (c : Class) → Is c w → by_named len fs h w c ≡ Ok u → HeldAt len whole u rest
+      → (c : Class) → Is c w → by_named len fs h w.at c ≡ Ok u → HeldAt len whole u rest
   kept_named fs h v w rest u same is_v built Class.OpenRound is move =
       let new : State = at (in_args (call_of h) ∷ fs) wanted in
       let may = may_open len w.at fs new u move in
@@ -269,7 +269,7 @@ module _ (len : ℕ) (whole : List Word) where
       (subst (λ g. Primary len (opened fs) (v ∷ w ∷ rest) (w ∷ rest) (metric g)) (sym same) (a_metric v is_v)) built c is move
 
   kept_grouped : (fs : List Frame) (x : Call) (start : List Word) (w : Word) (rest : List Word) (u : State) → HeadRead x start (w ∷ rest) → Built len whole fs start
-      → (c : Class) → Is c w → by_grouped len fs x w c ≡ Ok u → HeldAt len whole u rest
+      → (c : Class) → Is c w → by_grouped len fs x w.at c ≡ Ok u → HeldAt len whole u rest
   kept_grouped fs x start w rest u head built Class.OpenRound is move =
       let new : State = at (in_args x ∷ fs) wanted in
       let may = may_open len w.at fs new u move in
@@ -400,7 +400,7 @@ module _ (len : ℕ) (whole : List Word) where
 
   kept_window : (fs : List Frame) (place : ℕ) (t : Tree) (span : Span) (start : List Word) (w : Word) (rest : List Word) (u : State)
       → Windowed len (opened fs) place t span start (w ∷ rest) → Built len whole fs start
-      → (c : Class) → Is c w → by_window fs place t span w c ≡ Ok u → HeldAt len whole u rest
+      → (c : Class) → Is c w → by_window fs place t span w.at c ≡ Ok u → HeldAt len whole u rest
   kept_window fs place t span start w rest u read built Class.Offset is move =
       landed len whole (at fs (offset_wanted place t (Some span))) u rest move
       (start, w, is, (λ more s off. read more (Some s) (some_offset off)), built)
@@ -430,7 +430,7 @@ module _ (len : ℕ) (whole : List Word) where
   -- ---- templates
 
   kept_with_read : (fs : List Frame) (place : ℕ) (v w : Word) (rest : List Word) (u : State) → place ≡ v.at → Is Class.With v → Built len whole fs (v ∷ w ∷ rest)
-      → (c : Class) → Is c w → by_with_read len fs place w c ≡ Ok u → HeldAt len whole u rest
+      → (c : Class) → Is c w → by_with_read len fs place w.at c ≡ Ok u → HeldAt len whole u rest
   kept_with_read fs place v w rest u same is_v built Class.OpenRound is move =
       let new : State = at fs (template_wanted (record { at = place; templates = [] })) in
       let may = may_open len w.at fs new u move in

@@ -88,30 +88,30 @@ no_more_loosens c (in_operator j m ∷ fs) = refl
 no_more_loosens c (in_body s ∷ fs) = refl
 
 module _ (w : Word) where
-  go_on_loosens : (fs : List Frame) (t : Tree) (c : Class) → Loosens c (go_on fs t w c) (go_on fs t w c)
+  go_on_loosens : (fs : List Frame) (t : Tree) (c : Class) → Loosens c (go_on fs t w.at c) (go_on fs t w.at c)
   go_on_loosens fs t (Class.Operator op) = refl
   go_on_loosens fs t Class.CloseRound = close_loosens Class.CloseRound (reduce 0 fs t).frames (reduce 0 fs t).tree
   go_on_loosens fs t Class.Comma = continue_loosens Class.Comma (reduce 0 fs t).frames (reduce 0 fs t).tree
   go_on_loosens fs t _ = refl
 
-  primary_loosens : (fs : List Frame) (t : Tree) (c : Class) → Loosens c (by_primary fs t w c) (by_primary fs t w c)
+  primary_loosens : (fs : List Frame) (t : Tree) (c : Class) → Loosens c (by_primary fs t w.at c) (by_primary fs t w.at c)
   primary_loosens fs t Class.OpenSquare = refl
   primary_loosens fs t Class.Offset = refl
   primary_loosens fs t c = go_on_loosens fs t c
 
-  window_loosens : (fs : List Frame) (place : ℕ) (t : Tree) (span : Span) (c : Class) → Loosens c (by_window fs place t span w c) (by_window fs place t span w c)
+  window_loosens : (fs : List Frame) (place : ℕ) (t : Tree) (span : Span) (c : Class) → Loosens c (by_window fs place t span w.at c) (by_window fs place t span w.at c)
   window_loosens fs place t span Class.Offset = refl
   window_loosens fs place t span c = go_on_loosens fs (ranged place t (Some span) None) c
 
-  regrouped_loosens : (fs : List Frame) (x : Call) (c : Class) → Loosens c (by_regrouped fs x w c) (by_regrouped fs x w c)
+  regrouped_loosens : (fs : List Frame) (x : Call) (c : Class) → Loosens c (by_regrouped fs x w.at c) (by_regrouped fs x w.at c)
   regrouped_loosens fs x Class.Keep = refl
   regrouped_loosens fs x c = primary_loosens fs (calling x false) c
 
-  called_loosens : (fs : List Frame) (x : Call) (c : Class) → Loosens c (by_called fs x w c) (by_called fs x w c)
+  called_loosens : (fs : List Frame) (x : Call) (c : Class) → Loosens c (by_called fs x w.at c) (by_called fs x w.at c)
   called_loosens fs x (Class.Grouping by_word) = refl
   called_loosens fs x c = regrouped_loosens fs x c
 
-  named_loosens : (len : ℕ) (fs : List Frame) (h : Head) (c : Class) → Loosens c (by_named len fs h w c) (by_named 0 fs h w c)
+  named_loosens : (len : ℕ) (fs : List Frame) (h : Head) (c : Class) → Loosens c (by_named len fs h w.at c) (by_named 0 fs h w.at c)
   named_loosens len fs h Class.OpenRound = opening_loosens Class.OpenRound len w.at fs _ refl
   named_loosens len fs h Class.OpenCurly = refl
   named_loosens len fs h (Class.Grouping by_word) = refl
@@ -157,11 +157,11 @@ module _ (w : Word) where
   part_loosens c into off (Some (Goes s)) = refl
   part_loosens c into off (Some (Done v)) = refl
 
-  grouped_loosens : (len : ℕ) (fs : List Frame) (x : Call) (c : Class) → Loosens c (by_grouped len fs x w c) (by_grouped 0 fs x w c)
+  grouped_loosens : (len : ℕ) (fs : List Frame) (x : Call) (c : Class) → Loosens c (by_grouped len fs x w.at c) (by_grouped 0 fs x w.at c)
   grouped_loosens len fs x Class.OpenRound = opening_loosens Class.OpenRound len w.at fs _ refl
   grouped_loosens len fs x _ = refl
 
-  with_loosens : (len : ℕ) (fs : List Frame) (place : ℕ) (c : Class) → Loosens c (by_with_read len fs place w c) (by_with_read 0 fs place w c)
+  with_loosens : (len : ℕ) (fs : List Frame) (place : ℕ) (c : Class) → Loosens c (by_with_read len fs place w.at c) (by_with_read 0 fs place w.at c)
   with_loosens len fs place Class.OpenRound = opening_loosens Class.OpenRound len w.at fs _ refl
   with_loosens len fs place _ = refl
 

@@ -47,7 +47,7 @@ module _ (len : ℕ) (fs : List Frame) where
   pub primary_like : (t : Tree) → Like len (at fs (primary t)) (at fs (complete t))
   primary_like t = record { moves = λ w u. go w u (class_of_word w); ends = λ r is. is }
     where
-      go : (w : Word) (u : State) (c : Class) → moved (go_on fs t w c) ≡ Some u → moved (by_primary fs t w c) ≡ Some u
+      go : (w : Word) (u : State) (c : Class) → moved (go_on fs t w.at c) ≡ Some u → moved (by_primary fs t w.at c) ≡ Some u
       go w u Class.OpenSquare is = absurd (cc is)
       go w u Class.Offset is = absurd (cc is)
       go w u _ is = is
@@ -55,7 +55,7 @@ module _ (len : ℕ) (fs : List Frame) where
   pub named_like : (h : Head) → Like len (at fs (named h)) (at fs (primary (metric h)))
   named_like h = record { moves = λ w u. go w u (class_of_word w); ends = λ r is. is }
     where
-      go : (w : Word) (u : State) (c : Class) → moved (by_primary fs (metric h) w c) ≡ Some u → moved (by_named len fs h w c) ≡ Some u
+      go : (w : Word) (u : State) (c : Class) → moved (by_primary fs (metric h) w.at c) ≡ Some u → moved (by_named len fs h w.at c) ≡ Some u
       go w u Class.OpenRound is = absurd (cc is)
       go w u Class.OpenCurly is = absurd (cc is)
       go w u (Class.Grouping by) is = absurd (cc is)
@@ -64,14 +64,14 @@ module _ (len : ℕ) (fs : List Frame) where
   pub regrouped_like : (c : Call) → Like len (at fs (regrouped c)) (at fs (primary (calling c false)))
   regrouped_like c = record { moves = λ w u. go w u (class_of_word w); ends = λ r is. is }
     where
-      go : (w : Word) (u : State) (class : Class) → moved (by_primary fs (calling c false) w class) ≡ Some u → moved (by_regrouped fs c w class) ≡ Some u
+      go : (w : Word) (u : State) (class : Class) → moved (by_primary fs (calling c false) w.at class) ≡ Some u → moved (by_regrouped fs c w.at class) ≡ Some u
       go w u Class.Keep is = absurd (cc is)
       go w u _ is = is
 
   pub called_like : (c : Call) → Like len (at fs (called c)) (at fs (regrouped c))
   called_like c = record { moves = λ w u. go w u (class_of_word w); ends = λ r is. is }
     where
-      go : (w : Word) (u : State) (class : Class) → moved (by_regrouped fs c w class) ≡ Some u → moved (by_called fs c w class) ≡ Some u
+      go : (w : Word) (u : State) (class : Class) → moved (by_regrouped fs c w.at class) ≡ Some u → moved (by_called fs c w.at class) ≡ Some u
       go w u (Class.Grouping by) is = absurd (cc is)
       go w u _ is = is
 

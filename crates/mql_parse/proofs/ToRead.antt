@@ -178,7 +178,7 @@ module _ (len : ℕ) (fs : List Frame) {r : Tree} where
       like len (at fs (windowed place t span)) (at fs (complete (ranged place t (Some span) None)))
       (record { moves = λ w u. go w u (class_of_word w); ends = λ t is. is }) text r reads
     where
-      go : (w : Word) (u : State) (c : Class) → moved (go_on fs (ranged place t (Some span) None) w c) ≡ Some u → moved (by_window fs place t span w c) ≡ Some u
+      go : (w : Word) (u : State) (c : Class) → moved (go_on fs (ranged place t (Some span) None) w.at c) ≡ Some u → moved (by_window fs place t span w.at c) ≡ Some u
       go w u Class.Offset is = absurd (cc is)
       go w u _ is = is
   windowed_go place t span (some_offset x) reads =
@@ -224,7 +224,7 @@ wants (_ ∷ fs) = 0
 -- What later words see of a state behind an expression of a level: operators no tighter than it, where
 -- one may follow, `)`, `,` and the end.
 pub record After (len l : ℕ) (o : Bool) (fs : List Frame) (t : Tree) (s : State) : Type 0 where
-  pub operators : (w : Word) (op : Op) → Is (Class.Operator op) w → level op ≤ l → o ≡ false → step len s w ≡ Some (operate (reduce (level op) fs t) w op)
+  pub operators : (w : Word) (op : Op) → Is (Class.Operator op) w → level op ≤ l → o ≡ false → step len s w ≡ Some (operate (reduce (level op) fs t) w.at op)
   pub closes : (w : Word) → Is Class.CloseRound w → step len s w ≡ moved (close (reduce 0 fs t))
   pub continues : (w : Word) → Is Class.Comma w → step len s w ≡ moved (continue (reduce 0 fs t))
   pub ends : final_of s ≡ end (reduce 0 fs t)
@@ -232,9 +232,9 @@ pub record After (len l : ℕ) (o : Bool) (fs : List Frame) (t : Tree) (s : Stat
 module _ (len l : ℕ) (fs : List Frame) (t : Tree) where
   complete_after : After len l false fs t (at fs (complete t))
   complete_after = record {
-    operators = λ w op is le no. ap (λ c. moved (go_on fs t w c)) is;
-    closes = λ w is. ap (λ c. moved (go_on fs t w c)) is;
-    continues = λ w is. ap (λ c. moved (go_on fs t w c)) is;
+    operators = λ w op is le no. ap (λ c. moved (go_on fs t w.at c)) is;
+    closes = λ w is. ap (λ c. moved (go_on fs t w.at c)) is;
+    continues = λ w is. ap (λ c. moved (go_on fs t w.at c)) is;
     ends = refl;
   }
 
@@ -255,7 +255,7 @@ joined_after : (len : ℕ) (o : Bool) (j : Joint) (m : Matching) (fs : List Fram
 joined_after len o j m fs t s after = record {
   operators = λ w op is le no.
       let less : level op ≤ suc (level j.op) = omega arith in
-      after.operators w op is less no ∙ ap (λ r. Some (operate r w op)) (through (level op) j m fs t le);
+      after.operators w op is less no ∙ ap (λ r. Some (operate r w.at op)) (through (level op) j m fs t le);
   closes = λ w is. after.closes w is ∙ ap (λ r. moved (close r)) (through 0 j m fs t (omega arith));
   continues = λ w is. after.continues w is ∙ ap (λ r. moved (continue r)) (through 0 j m fs t (omega arith));
   ends = after.ends ∙ ap end (through 0 j m fs t (omega arith));
@@ -341,8 +341,8 @@ mutual
       let behind : Yields len (at fs (operated j₀)) here r = truth_go len fs j₀ truths (mods_go len fs j mods right) refl in
       let same = stays (level op) fs a le (level_some op) (level_most op) in
       expr_read x fs levels le r
-      (λ s after. on len s (operate (reduce (level op) fs a) w op) w here r (after.operators w op is (omega arith) refl)
-      (subst (λ q. Yields len (operate q w op) here r) (sym same) behind))
+      (λ s after. on len s (operate (reduce (level op) fs a) w.at op) w here r (after.operators w op is (omega arith) refl)
+      (subst (λ q. Yields len (operate q w.at op) here r) (sym same) behind))
   expr_read {len = len} (a_minus {n = n} {o = o} {text = text} {t = t} w is may x) fs levels le r next =
       on_class len fs wanted (Class.Operator Op.Sub) (at (in_minus w.at ∷ fs) wanted) w text r is (open_move len n w.at fs (at (in_minus w.at ∷ fs) wanted) levels may)
       (expr_read x (in_minus w.at ∷ fs) (ap suc levels) (omega arith) r (λ s after. next s (minus_after len unary w.at o fs t s after)))

@@ -171,8 +171,8 @@ reduce k (in_body scope ∷ fs) t =
 reduce k (f ∷ fs) t = record { frames = f ∷ fs; tree = t }
 
 -- behind an operator
-abbrev pub operate : Reduced → Word → Op → State
-operate r w op = at r.frames (operated (record { at = w.at; op = op; truth = false; operand = r.tree }))
+abbrev pub operate : Reduced → (here : ℕ) → Op → State
+operate r here op = at r.frames (operated (record { at = here; op = op; truth = false; operand = r.tree }))
 
 abbrev pub one_more : Call → Tree → Call
 one_more c t = record { at = c.at; name = c.name; args = c.args ++ t ∷ []; before = c.before; after = c.after }
@@ -209,28 +209,28 @@ end r = end_frame r.frames r.tree
 
 -- ---- moves
 
-abbrev pub go_on : List Frame → Tree → Word → Class → Result State Wrong
-go_on fs t w (Class.Operator op) = Ok (operate (reduce (level op) fs t) w op)
-go_on fs t w Class.CloseRound = close (reduce 0 fs t)
-go_on fs t w Class.Comma = continue (reduce 0 fs t)
-go_on fs t w _ = Err Unexpected
+abbrev pub go_on : List Frame → Tree → (here : ℕ) → Class → Result State Wrong
+go_on fs t here (Class.Operator op) = Ok (operate (reduce (level op) fs t) here op)
+go_on fs t here Class.CloseRound = close (reduce 0 fs t)
+go_on fs t here Class.Comma = continue (reduce 0 fs t)
+go_on fs t here _ = Err Unexpected
 
-abbrev pub by_window : List Frame → (at : ℕ) → Tree → Span → Word → Class → Result State Wrong
-by_window fs place t span w Class.Offset = Ok (at fs (offset_wanted place t (Some span)))
-by_window fs place t span w c = go_on fs (ranged place t (Some span) None) w c
+abbrev pub by_window : List Frame → (at : ℕ) → Tree → Span → (here : ℕ) → Class → Result State Wrong
+by_window fs place t span here Class.Offset = Ok (at fs (offset_wanted place t (Some span)))
+by_window fs place t span here c = go_on fs (ranged place t (Some span) None) here c
 
-abbrev pub by_primary : List Frame → Tree → Word → Class → Result State Wrong
-by_primary fs t w Class.OpenSquare = Ok (at fs (window_wanted w.at t))
-by_primary fs t w Class.Offset = Ok (at fs (offset_wanted w.at t None))
-by_primary fs t w c = go_on fs t w c
+abbrev pub by_primary : List Frame → Tree → (here : ℕ) → Class → Result State Wrong
+by_primary fs t here Class.OpenSquare = Ok (at fs (window_wanted here t))
+by_primary fs t here Class.Offset = Ok (at fs (offset_wanted here t None))
+by_primary fs t here c = go_on fs t here c
 
-abbrev pub by_regrouped : List Frame → Call → Word → Class → Result State Wrong
-by_regrouped fs c w Class.Keep = Ok (at fs (primary (calling c true)))
-by_regrouped fs c w class = by_primary fs (calling c false) w class
+abbrev pub by_regrouped : List Frame → Call → (here : ℕ) → Class → Result State Wrong
+by_regrouped fs c here Class.Keep = Ok (at fs (primary (calling c true)))
+by_regrouped fs c here class = by_primary fs (calling c false) here class
 
-abbrev pub by_called : List Frame → Call → Word → Class → Result State Wrong
-by_called fs c w (Class.Grouping by) = Ok (at fs (names_wanted (after_args c by)))
-by_called fs c w class = by_regrouped fs c w class
+abbrev pub by_called : List Frame → Call → (here : ℕ) → Class → Result State Wrong
+by_called fs c here (Class.Grouping by) = Ok (at fs (names_wanted (after_args c by)))
+by_called fs c here class = by_regrouped fs c here class
 
 abbrev pub call_of : Head → Call
 call_of h = record { at = h.at; name = h.name; args = []; before = None; after = None }
@@ -238,11 +238,11 @@ call_of h = record { at = h.at; name = h.name; args = []; before = None; after =
 abbrev pub metric : Head → Tree
 metric h = select h.at (Some h.name) []
 
-abbrev pub by_named : (len : ℕ) → List Frame → Head → Word → Class → Result State Wrong
-by_named len fs h w Class.OpenRound = opening len w.at fs (at (in_args (call_of h) ∷ fs) wanted)
-by_named len fs h w Class.OpenCurly = Ok (at fs (in_braces h.at (Some h.name) braces_start))
-by_named len fs h w (Class.Grouping by) = Ok (at fs (names_wanted (before_args (call_of h) by)))
-by_named len fs h w c = by_primary fs (metric h) w c
+abbrev pub by_named : (len : ℕ) → List Frame → Head → (here : ℕ) → Class → Result State Wrong
+by_named len fs h here Class.OpenRound = opening len here fs (at (in_args (call_of h) ∷ fs) wanted)
+by_named len fs h here Class.OpenCurly = Ok (at fs (in_braces h.at (Some h.name) braces_start))
+by_named len fs h here (Class.Grouping by) = Ok (at fs (names_wanted (before_args (call_of h) by)))
+by_named len fs h here c = by_primary fs (metric h) here c
 
 -- behind the `)` of arguments, where none stands before it
 abbrev pub no_more : List Frame → Result State Wrong
@@ -326,13 +326,13 @@ within_part on off None = Err Unexpected
 within_part on off (Some (Goes s)) = Ok (on s)
 within_part on off (Some (Done v)) = Ok (off v)
 
-abbrev pub by_grouped : (len : ℕ) → List Frame → Call → Word → Class → Result State Wrong
-by_grouped len fs c w Class.OpenRound = opening len w.at fs (at (in_args c ∷ fs) wanted)
-by_grouped len fs c w _ = Err Unexpected
+abbrev pub by_grouped : (len : ℕ) → List Frame → Call → (here : ℕ) → Class → Result State Wrong
+by_grouped len fs c here Class.OpenRound = opening len here fs (at (in_args c ∷ fs) wanted)
+by_grouped len fs c here _ = Err Unexpected
 
-abbrev pub by_with_read : (len : ℕ) → List Frame → (place : ℕ) → Word → Class → Result State Wrong
-by_with_read len fs place w Class.OpenRound = opening len w.at fs (at fs (template_wanted (record { at = place; templates = [] })))
-by_with_read len fs place w _ = Err Unexpected
+abbrev pub by_with_read : (len : ℕ) → List Frame → (place : ℕ) → (here : ℕ) → Class → Result State Wrong
+by_with_read len fs place here Class.OpenRound = opening len here fs (at fs (template_wanted (record { at = place; templates = [] })))
+by_with_read len fs place here _ = Err Unexpected
 
 abbrev pub by_template_wanted : List Frame → Scope → Word → Class → Result State Wrong
 by_template_wanted fs s w Class.Identifier = Ok (at fs (template_named s (head_of w)))
@@ -349,26 +349,26 @@ by_template_named fs s h c = by_template_headed fs s h [] c
 
 abbrev pub by : (len : ℕ) → List Frame → Before → Word → Class → Result State Wrong
 by len fs wanted w c = by_wanted len fs w c
-by len fs (named h) w c = by_named len fs h w c
-by len fs (grouped x) w c = by_grouped len fs x w c
-by len fs (called x) w c = by_called fs x w c
-by len fs (regrouped x) w c = by_regrouped fs x w c
+by len fs (named h) w c = by_named len fs h w.at c
+by len fs (grouped x) w c = by_grouped len fs x w.at c
+by len fs (called x) w c = by_called fs x w.at c
+by len fs (regrouped x) w c = by_regrouped fs x w.at c
 by len fs (names_wanted p) w c = by_names_wanted fs p c
 by len fs (in_names p s) w c = within_part (λ t. at fs (in_names p t)) (named_for fs p) (names_step s w)
 by len fs (in_braces place name s) w c =
     within_part (λ t. at fs (in_braces place name t)) (λ lists. at fs (primary (select place name lists))) (braces_step s w)
-by len fs (primary t) w c = by_primary fs t w c
+by len fs (primary t) w c = by_primary fs t w.at c
 by len fs (window_wanted place t) w c = by_window_wanted len fs place t w c
 by len fs (window_read place t span) w c = by_window_read fs place t span c
-by len fs (windowed place t span) w c = by_window fs place t span w c
+by len fs (windowed place t span) w c = by_window fs place t span w.at c
 by len fs (offset_wanted place t window) w c = by_offset_wanted len fs place t window w c
 by len fs (offset_back place t window) w c = by_offset_back len fs place t window w c
-by len fs (complete t) w c = go_on fs t w c
+by len fs (complete t) w c = go_on fs t w.at c
 by len fs (operated j) w c = by_operated len fs j w c
 by len fs (compared j) w c = by_compared len fs j w c
 by len fs (matched j kind names) w c = by_matched len fs j kind names w c
 by len fs (many_read j kind names side) w c = by_many len fs j kind names side w c
-by len fs (with_read place) w c = by_with_read len fs place w c
+by len fs (with_read place) w c = by_with_read len fs place w.at c
 by len fs (template_wanted s) w c = by_template_wanted fs s w c
 by len fs (template_named s h) w c = by_template_named fs s h c
 by len fs (in_params s h state) w c = within_part (λ t. at fs (in_params s h t)) (λ ps. at fs (template_headed s h ps)) (params_step state w)
