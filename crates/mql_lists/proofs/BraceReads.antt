@@ -1,17 +1,16 @@
 -- What the grammar says of braces is read.
 use Rattle.std.specs.Prelude.{◌≡◌, ℕ, Bool, true, false, List, [], ◌∷◌, ◌++◌, Option, Some}
-use Rattle.std.proofs.Common.{refl, ap, sym, ◌∙◌, append_assoc}
+use Rattle.std.proofs.Common.{refl, ap, ◌∙◌, append_assoc}
 use Rattle.mql_expr.specs.declared.item.Item.{Item}
-use Rattle.mql_expr.specs.declared.item.Item.TheVariants.{Named}
 use Rattle.mql_lists.specs.Words.{Word}
 use Rattle.mql_lists.specs.Grammar.{OneItem, a_filter, a_name, OneList, last_item, last_comma, next_item, SomeLists, last_list, next_list, Braces, no_items, some_lists}
-use Rattle.mql_lists.specs.Machines.{word_role, is_label, begins_item, at_first, behind_item, behind_name, after_comma, after_or, with_item, with_list, named_item, braces_start, braces_step}
+use Rattle.mql_lists.specs.Machines.{word_role, is_label, begins_item, at_first, behind_item, behind_name, after_or, with_item, with_list, named_item, braces_start, braces_step}
 use Rattle.mql_lists.specs.Progress.{behind_step, leads}
 use Rattle.mql_lists.specs.declared.braces.BracesReader.{BracesReader}
 use Rattle.mql_lists.specs.declared.braces.Gathered.{Gathered}
 use Rattle.mql_lists.specs.declared.braces.Heading.{Heading}
 use Rattle.mql_lists.specs.declared.braces.Place.{Place}
-use Rattle.mql_lists.specs.declared.braces.Place.TheVariants.{First, Wanted, AtName, AtSign, BehindItem, AfterComma, AfterOr}
+use Rattle.mql_lists.specs.declared.braces.Place.TheVariants.{First, Wanted, AtName, BehindItem, AfterComma, AfterOr}
 use Rattle.mql_lists.specs.declared.role.Role.{Role}
 use Rattle.mql_lists.specs.declared.role.Role.TheVariants.{Free, Either, Reserved, Next, EndCurly}
 use Rattle.mql_lists.proofs.RoleLaws.{role_free, role_either, role_value, role_next, role_curly, role_compare, label_role}

@@ -1,3 +1,4 @@
+mod BraceGrammars
 pub mod BraceLaws
 mod BraceReads
 pub mod NameLaws

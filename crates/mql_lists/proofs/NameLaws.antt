@@ -1,10 +1,10 @@
 -- The machine that reads names reads what the grammar says, and nothing else.
-use Rattle.std.specs.Prelude.{◌≡◌, ℕ, Bool, true, false, List, [], ◌∷◌, ◌++◌, Some, None, codes}
+use Rattle.std.specs.Prelude.{◌≡◌, ℕ, Bool, true, false, List, [], ◌∷◌, ◌++◌, Some, codes}
 use Rattle.std.proofs.Common.{refl, ap, sym, subst, ◌∙◌, append-nil, append_assoc}
 use Rattle.mql_lists.specs.Words.{Word}
 use Rattle.mql_lists.specs.Grammar.{IsA, IsLabel, Names, no_names, last_name, next_name}
-use Rattle.mql_lists.specs.Laws.{GoesOn, IsReader, NamesAreRead}
-use Rattle.mql_lists.specs.Machines.{word_role, is_label, names_at, names_start, names_step}
+use Rattle.mql_lists.specs.Laws.{GoesOn, NamesAreRead}
+use Rattle.mql_lists.specs.Machines.{word_role, names_at, names_start, names_step}
 use Rattle.mql_lists.specs.Progress.{behind_step, leads}
 use Rattle.mql_lists.specs.declared.class.Class.TheVariants.{Comma, CloseRound}
 use Rattle.mql_lists.specs.declared.names.NamesReader.{NamesReader}

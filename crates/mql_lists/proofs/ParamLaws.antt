@@ -1,5 +1,5 @@
 -- The machine that reads parameters reads what the grammar says, and nothing else.
-use Rattle.std.specs.Prelude.{◌≡◌, ℕ, List, [], ◌∷◌, ◌++◌, Some, None, codes}
+use Rattle.std.specs.Prelude.{◌≡◌, ℕ, List, [], ◌∷◌, ◌++◌, Some, codes}
 use Rattle.std.proofs.Common.{refl, ap, sym, subst, ◌∙◌, append-nil, append_assoc}
 use Rattle.mql_expr.specs.declared.expr.Param.{Param}
 use Rattle.mql_lists.specs.Words.{Word}

@@ -1,6 +1,6 @@
 -- Where the texts of names and strings begin and end, and the texts of strings.
-use Rattle.std.proofs.Common.{◌≡◌, ℕ, zero, suc, ◌+◌, ◌-◌, ◌<◌, ◌≤◌, Bool, true, false, cond, List, [], ◌∷◌, ◌++◌, length, take, drop, get_or, refl, ap, sym, subst, ◌∙◌, arith, length-append, append_assoc, map}
-use Rattle.std.specs.Prelude.{◌==◌, ◌&&◌, ◌||◌, not, slice_index, IsUtf8, IsCharBoundary}
+use Rattle.std.proofs.Common.{◌≡◌, ℕ, zero, suc, ◌+◌, ◌-◌, ◌<◌, ◌≤◌, Bool, true, false, cond, List, [], ◌∷◌, ◌++◌, length, take, drop, get_or, refl, ap, sym, subst, ◌∙◌, arith, length-append, map}
+use Rattle.std.specs.Prelude.{◌==◌, not, slice_index, IsUtf8, IsCharBoundary}
 use Rattle.std.specs.List.{list_all, position_or_len, before_first, after_first}
 use Rattle.std.proofs.Math.Seq.{drop-cons, get_or-append_seam}
 use Rattle.std.proofs.lemmas.Bool.{and_parts}
@@ -10,11 +10,10 @@ use Rattle.std.proofs.lemmas.Str.{IsCharBoundary-after_ascii, IsCharBoundary-bef
 use Rattle.mql_lex.specs.Grammar.{IsQuoted, IsToken, is_quote}
 use Rattle.mql_lex.specs.Tokens.{StandsIn, slice_of}
 use Rattle.mql_lex.specs.declared.token.Token.{Token}
-use Rattle.mql_lex.specs.declared.token.TokenKind.{TokenKind}
 use Rattle.mql_lex.specs.declared.token.TokenKind.TheVariants.{Name, Str}
 use Rattle.vm_labels.specs.Name.{begins_name, is_name, is_name_byte}
 use Rattle.mql_lists.specs.Classes.{class_in}
-use Rattle.mql_lists.specs.Values.{between, escaped, unescaped}
+use Rattle.mql_lists.specs.Values.{between, unescaped}
 use Rattle.mql_lists.specs.declared.class.Class.{Class}
 
 -- ---- rows of a table

@@ -6,7 +6,6 @@ use Rattle.mql_lex.specs.declared.operator.Op.TheVariants.{Default, If, IfNot, O
 use Rattle.mql_expr.specs.declared.item.Item.{Item}
 use Rattle.mql_expr.specs.declared.item.Item.TheVariants.{Is, Named}
 use Rattle.mql_expr.specs.declared.expr.Param.{Param}
-use Rattle.vm_labels.specs.declared.selector.FilterOp.{FilterOp}
 use Rattle.vm_labels.specs.declared.selector.FilterOp.TheVariants.{Equal, Differs as DiffersFrom, Matches, MatchesNot}
 use Rattle.mql_lists.specs.Words.{Word}
 use Rattle.mql_lists.specs.Classes.{class_of_word}
@@ -76,6 +75,9 @@ is_free _ = false
 
 -- ---- names
 
+abbrev pub names_go : List (List ℕ) → Bool → Option (Progress NamesReader (List (List ℕ)))
+names_go names wanted = Some (Goes (record { names = names; wanted = wanted }))
+
 abbrev pub ended_names : List (List ℕ) → Role → Option (Progress NamesReader (List (List ℕ)))
 ended_names names EndRound = Some (Done names)
 ended_names names _ = None
@@ -84,9 +86,8 @@ ended_names names _ = None
 abbrev pub names_at : Bool → List (List ℕ) → List ℕ → Role
     → Option (Progress NamesReader (List (List ℕ)))
 names_at true names text role =
-    if is_label role then Some (Goes (record { names = names ++ text ∷ []; wanted = false }))
-    else ended_names names role
-names_at false names text Next = Some (Goes (record { names = names; wanted = true }))
+    if is_label role then names_go (names ++ text ∷ []) false else ended_names names role
+names_at false names text Next = names_go names true
 names_at false names text role = ended_names names role
 
 abbrev pub names_start : NamesReader
@@ -97,12 +98,15 @@ names_step state word = names_at state.wanted state.names word.text (word_role w
 
 -- ---- parameters
 
+abbrev pub params_go : List Param → Spot → Option (Progress ParamsReader (List Param))
+params_go params spot = Some (Goes (record { params = params; spot = spot }))
+
 abbrev pub params_at : Spot → List Param → Param → Role
     → Option (Progress ParamsReader (List Param))
-params_at Opened params new Free = Some (Goes (record { params = params ++ new ∷ []; spot = BehindName }))
+params_at Opened params new Free = params_go (params ++ new ∷ []) BehindName
 params_at Opened params new EndRound = Some (Done params)
-params_at BehindComma params new Free = Some (Goes (record { params = params ++ new ∷ []; spot = BehindName }))
-params_at BehindName params new Next = Some (Goes (record { params = params; spot = BehindComma }))
+params_at BehindComma params new Free = params_go (params ++ new ∷ []) BehindName
+params_at BehindName params new Next = params_go params BehindComma
 params_at BehindName params new EndRound = Some (Done params)
 params_at _ params new _ = None
 

@@ -20,22 +20,22 @@ use vm_labels::{Filter, FilterOp};
 /// (MetricsQL, "filters")
 #[derive(Debug, Drop)]
 pub struct BracesReader {
-    pub found: Gathered,
-    pub place: Place,
+    found: Gathered,
+    place: Place,
 }
 
 /// What was read.
 #[derive(Debug, Drop)]
-pub struct Gathered {
+pub(crate) struct Gathered {
     /// The lists that are read to their end.
-    pub lists: List<List<Item>>,
+    lists: List<List<Item>>,
     /// The items of the list that is being read.
-    pub items: List<Item>,
+    items: List<Item>,
 }
 
 /// What was read last.
 #[derive(Debug, Drop)]
-pub enum Place {
+pub(crate) enum Place {
     /// `{`
     First,
     /// `or` behind a list.
@@ -52,19 +52,19 @@ pub enum Place {
 
 /// A name at the beginning of an item, which is an item of its own or that of a filter.
 #[derive(Debug, Drop)]
-pub struct Heading {
+pub(crate) struct Heading {
     /// The place of its first byte in the query's text.
-    pub at: u64,
-    pub name: Text,
+    at: u64,
+    name: Text,
     /// Whether it is no reserved word. A reserved word is no item of its own.
-    pub free: bool,
+    free: bool,
 }
 
 /// A filter without its value.
 #[derive(Debug, Drop)]
-pub struct Begun {
-    pub name: Text,
-    pub op: FilterOp,
+pub(crate) struct Begun {
+    name: Text,
+    op: FilterOp,
 }
 
 /// What a token leads to.
@@ -144,12 +144,7 @@ fn with_list(alloc: Global, found: Gathered) -> Result<Gathered, AllocError>
 }
 
 /// Takes a name at the beginning of an item.
-fn begins_item(
-    alloc: Global,
-    found: Gathered,
-    text: &str,
-    token: Token,
-) -> Result<Turn, AllocError>
+fn begins_item(alloc: Global, found: Gathered, text: &str, token: Token) -> Result<Turn, AllocError>
     requires { StandsIn text.now token }
     ensures { IfOk result (λ turn. turn ≡ item_begun found (word_of text.now token) (word_role (word_of text.now token))) }
 {
@@ -230,12 +225,7 @@ fn behind_sign(
 }
 
 /// Behind a comma, where `or` may be a name or part two lists.
-fn after_comma(
-    alloc: Global,
-    found: Gathered,
-    text: &str,
-    token: Token,
-) -> Result<Turn, AllocError>
+fn after_comma(alloc: Global, found: Gathered, text: &str, token: Token) -> Result<Turn, AllocError>
     requires { StandsIn text.now token }
     ensures { IfOk result (λ turn. turn ≡ comma_turn found (word_of text.now token) (word_role (word_of text.now token))) }
 {

@@ -5,17 +5,14 @@ ghost use Rattle.mql_lists.specs.Laws.{NamesAreRead, ParamsAreRead, BracesAreRea
 /// Names in parentheses are read as the grammar says, and nothing else is read.
 pub fn names_are_read()
     ensures { NamesAreRead }
-{
-}
+{}
 
 /// Parameters of a template are read as the grammar says, and nothing else is read.
 pub fn params_are_read()
     ensures { ParamsAreRead }
-{
-}
+{}
 
 /// What stands in braces is read as the grammar says, and nothing else is read.
 pub fn braces_are_read()
     ensures { BracesAreRead }
-{
-}
+{}

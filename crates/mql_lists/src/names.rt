@@ -3,7 +3,7 @@
 ghost use Rattle.std.specs.Prelude.{◌≡◌, ◌++◌, ◌∷◌, [], IfOk};
 ghost use Rattle.mql_lex.specs.Tokens.{StandsIn};
 ghost use Rattle.mql_lists.specs.Words.{word_of};
-ghost use Rattle.mql_lists.specs.Machines.{names_start, names_step};
+ghost use Rattle.mql_lists.specs.Machines.{names_start, names_step, names_go};
 
 use crate::progress::Progress;
 use crate::role::{Role, role_of_token};
@@ -17,9 +17,9 @@ use vm_base::{List, Text};
 #[derive(Debug, Drop)]
 pub struct NamesReader {
     /// The names that were read.
-    pub names: List<Text>,
+    names: List<Text>,
     /// Whether a name may come next, and no comma.
-    pub wanted: bool,
+    wanted: bool,
 }
 
 impl NamesReader {
@@ -47,20 +47,20 @@ impl NamesReader {
         let role = role_of_token(text, token);
         if wanted && role.is_label() {
             let names = with_name(names, name_text(alloc, text, token)?)?;
-            return Ok(Some(Progress::Goes(NamesReader {
-                names,
-                wanted: false,
-            })));
+            return Ok(goes(names, false));
         }
         match role {
-            Role::Next if !wanted => Ok(Some(Progress::Goes(NamesReader {
-                names,
-                wanted: true,
-            }))),
+            Role::Next if !wanted => Ok(goes(names, true)),
             Role::EndRound => Ok(Some(Progress::Done(names))),
             _ => Ok(None),
         }
     }
+}
+
+fn goes(names: List<Text>, wanted: bool) -> Option<Progress<NamesReader, List<Text>>>
+    ensures { result ≡ names_go names wanted }
+{
+    Some(Progress::Goes(NamesReader { names, wanted }))
 }
 
 fn with_name(names: List<Text>, name: Text) -> Result<List<Text>, AllocError>

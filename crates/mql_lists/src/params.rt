@@ -3,7 +3,7 @@
 ghost use Rattle.std.specs.Prelude.{◌≡◌, ◌++◌, ◌∷◌, [], IfOk};
 ghost use Rattle.mql_lex.specs.Tokens.{StandsIn};
 ghost use Rattle.mql_lists.specs.Words.{word_of};
-ghost use Rattle.mql_lists.specs.Machines.{params_start, params_step};
+ghost use Rattle.mql_lists.specs.Machines.{params_start, params_step, params_go};
 
 use crate::progress::Progress;
 use crate::role::{Role, role_of_token};
@@ -18,13 +18,13 @@ use vm_base::List;
 #[derive(Debug, Drop)]
 pub struct ParamsReader {
     /// The parameters that were read.
-    pub params: List<Param>,
-    pub spot: Spot,
+    params: List<Param>,
+    spot: Spot,
 }
 
 /// What was read last.
 #[derive(Clone, Copy, Debug)]
-pub enum Spot {
+pub(crate) enum Spot {
     /// `(`
     Opened,
     BehindName,
@@ -57,19 +57,21 @@ impl ParamsReader {
             Role::Free if !matches!(spot, Spot::BehindName) => {
                 let name = name_text(alloc, text, token)?;
                 let params = with_param(params, Param { at: token.at, name })?;
-                Ok(Some(Progress::Goes(ParamsReader {
-                    params,
-                    spot: Spot::BehindName,
-                })))
+                Ok(goes(params, Spot::BehindName))
             }
-            Role::Next if matches!(spot, Spot::BehindName) => Ok(Some(Progress::Goes(ParamsReader {
-                params,
-                spot: Spot::BehindComma,
-            }))),
-            Role::EndRound if !matches!(spot, Spot::BehindComma) => Ok(Some(Progress::Done(params))),
+            Role::Next if matches!(spot, Spot::BehindName) => Ok(goes(params, Spot::BehindComma)),
+            Role::EndRound if !matches!(spot, Spot::BehindComma) => {
+                Ok(Some(Progress::Done(params)))
+            }
             _ => Ok(None),
         }
     }
+}
+
+fn goes(params: List<Param>, spot: Spot) -> Option<Progress<ParamsReader, List<Param>>>
+    ensures { result ≡ params_go params spot }
+{
+    Some(Progress::Goes(ParamsReader { params, spot }))
 }
 
 fn with_param(params: List<Param>, param: Param) -> Result<List<Param>, AllocError>

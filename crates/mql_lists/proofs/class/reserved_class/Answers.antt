@@ -1,4 +1,4 @@
-use Rattle.std.proofs.Common.{◌≡◌, ℕ, List, [], ◌+◌, Bool, true, false, cond, Bor, get_or, refl, sym, ap, ◌∙◌, arith}
+use Rattle.std.proofs.Common.{◌≡◌, ℕ, List, [], true, false, Bor, get_or, refl, sym, ◌∙◌}
 use Rattle.std.specs.Str.{str_eq_ignore_ascii_case}
 use Rattle.mql_lists.specs.declared.class.Class.{Class}
 use Rattle.mql_lists.specs.declared.class.Class.TheVariants.{Identifier}
