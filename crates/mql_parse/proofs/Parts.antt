@@ -5,16 +5,14 @@ use Rattle.mql_expr.specs.declared.expr.Param.{Param}
 use Rattle.mql_lists.specs.Words.{Word}
 use Rattle.mql_lists.specs.Progress.{leads}
 use Rattle.mql_lists.specs.Grammar.{Names, Params, Braces}
-use Rattle.mql_lists.specs.Laws.{GoesOn, NamesAreRead, ParamsAreRead, BracesAreRead}
+use Rattle.mql_lists.specs.Laws.{GoesOn}
 use Rattle.mql_lists.specs.Machines.{names_step, names_start, params_step, params_start, braces_step, braces_start}
 use Rattle.mql_lists.specs.declared.names.NamesReader.{NamesReader}
 use Rattle.mql_lists.specs.declared.params.ParamsReader.{ParamsReader}
 use Rattle.mql_lists.specs.declared.braces.BracesReader.{BracesReader}
+use Rattle.mql_lists.proofs.BraceLaws.{braces_law}
 use Rattle.mql_lists.proofs.NameLaws.{names_law}
 use Rattle.mql_lists.proofs.ParamLaws.{params_law}
-
-braces_law : BracesAreRead
-braces_law = ?
 
 pub names_read : {text rest : List Word} {v : List (List ℕ)} → Names text rest v → leads names_step names_start text ≡ Some (v, rest)
 names_read {text} {rest} {v} x = names_law.read text rest v x
