@@ -158,6 +158,14 @@ pub record Reduced : Type 0 where
   pub frames : List Frame
   pub tree : Tree
 
+-- whether an operator of this level ends a frame; 0 ends all that need no closing bracket
+abbrev pub ends : ℕ → Frame → Bool
+ends k (in_minus _) = true
+ends k in_plus = true
+ends k (in_operator j m) = nat_le k (level j.op)
+ends k (in_body _) = k == 0
+ends k _ = false
+
 -- The frames that an operator of this level ends, end; 0 ends all that need no closing bracket.
 abbrev pub reduce : ℕ → List Frame → Tree → Reduced
 reduce k [] t = record { frames = []; tree = t }

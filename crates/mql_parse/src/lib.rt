@@ -2,6 +2,9 @@
 #![tactic(auto)]
 
 mod fault;
+mod opening;
+mod stack;
+mod state;
 
 ghost use Rattle.std.specs.Prelude.{List, ◌≡◌, Some};
 ghost use Rattle.vm_base.specs.Run.{result};
