@@ -166,17 +166,21 @@ ends k (in_operator j m) = nat_le k (level j.op)
 ends k (in_body _) = k == 0
 ends k _ = false
 
--- The frames that an operator of this level ends, end; 0 ends all that need no closing bracket.
+abbrev pub first_ends : ℕ → List Frame → Bool
+first_ends k [] = false
+first_ends k (f ∷ fs) = ends k f
+
+-- what an expression and the frame that it ends make
+abbrev pub ended : Frame → Tree → Tree
+ended (in_minus place) t = negate place t
+ended (in_operator j m) t = joined j m t
+ended (in_body scope) t = with_templates scope.at (templates_listed scope.templates) t
+ended _ t = t
+
+-- the frames that an operator of this level leaves, and the expression that stands in them
 abbrev pub reduce : ℕ → List Frame → Tree → Reduced
 reduce k [] t = record { frames = []; tree = t }
-reduce k (in_minus at ∷ fs) t = reduce k fs (negate at t)
-reduce k (in_plus ∷ fs) t = reduce k fs t
-reduce k (in_operator j m ∷ fs) t =
-    if nat_le k (level j.op) then reduce k fs (joined j m t) else record { frames = in_operator j m ∷ fs; tree = t }
-reduce k (in_body scope ∷ fs) t =
-    if k == 0 then reduce k fs (with_templates scope.at (templates_listed scope.templates) t)
-    else record { frames = in_body scope ∷ fs; tree = t }
-reduce k (f ∷ fs) t = record { frames = f ∷ fs; tree = t }
+reduce k (f ∷ fs) t = if ends k f then reduce k fs (ended f t) else record { frames = f ∷ fs; tree = t }
 
 -- behind an operator
 abbrev pub operate : Reduced → (here : ℕ) → Op → State

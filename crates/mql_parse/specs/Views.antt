@@ -8,10 +8,13 @@ use Rattle.mql_parse.specs.declared.fault.StepError.TheVariants.{Memory, Refused
 use Rattle.mql_parse.specs.declared.state.Calling.{Calling}
 use Rattle.mql_parse.specs.declared.state.Heading.{Heading}
 use Rattle.mql_parse.specs.declared.state.Last.{Last}
+use Rattle.mql_parse.specs.declared.state.Joining.{Joining}
+use Rattle.mql_parse.specs.declared.state.Measuring.{Measuring}
 use Rattle.mql_parse.specs.declared.state.NamesFor.{NamesFor}
 use Rattle.mql_parse.specs.declared.state.Open.{Open}
 use Rattle.mql_parse.specs.declared.state.Pending.{Pending}
 use Rattle.mql_parse.specs.declared.state.Scoping.{Scoping}
+use Rattle.mql_parse.specs.declared.state.Templating.{Templating}
 
 abbrev pub the_head : Heading → Head
 the_head h = record { at = h.at; name = h.name }
@@ -44,6 +47,26 @@ the_purpose (NamesFor.GroupAfter c by) = after_args (the_call c) by
 the_purpose (NamesFor.Pairs p kind) = matched_by (the_joint p) kind
 the_purpose (NamesFor.Taken p side) = taken_over (the_joint p.pending) p.kind p.names side
 
+abbrev pub the_measuring : Measuring → Before
+the_measuring (Measuring.WindowWanted r) = window_wanted r.at (tree r.inner)
+the_measuring (Measuring.WindowRead r span) = window_read r.at (tree r.inner) span
+the_measuring (Measuring.Windowed r span) = windowed r.at (tree r.inner) span
+the_measuring (Measuring.OffsetWanted r window) = offset_wanted r.at (tree r.inner) window
+the_measuring (Measuring.OffsetBack r window) = offset_back r.at (tree r.inner) window
+
+abbrev pub the_joining : Joining → Before
+the_joining (Joining.Operator p) = operated (the_joint p)
+the_joining (Joining.Compared p) = compared (the_joint p)
+the_joining (Joining.Matched p) = matched (the_joint p.pending) p.kind p.names
+the_joining (Joining.Widened p side) = many_read (the_joint p.pending) p.kind p.names side
+
+abbrev pub the_templating : Templating → Before
+the_templating (Templating.With place) = with_read place
+the_templating (Templating.Wanted s) = template_wanted (the_scope s)
+the_templating (Templating.Name s h) = template_named (the_scope s) (the_head h)
+the_templating (Templating.InParams s h state) = in_params (the_scope s) (the_head h) state
+the_templating (Templating.Head s h ps) = template_headed (the_scope s) (the_head h) ps
+
 abbrev pub the_before : Last → Before
 the_before Last.Nothing = wanted
 the_before (Last.Name h) = named (the_head h)
@@ -54,21 +77,10 @@ the_before (Last.NamesWanted p) = names_wanted (the_purpose p)
 the_before (Last.InNames p s) = in_names (the_purpose p) s
 the_before (Last.InBraces place name s) = in_braces place name s
 the_before (Last.Primary e) = primary (tree e)
-the_before (Last.WindowWanted r) = window_wanted r.at (tree r.inner)
-the_before (Last.WindowRead r span) = window_read r.at (tree r.inner) span
-the_before (Last.Windowed r span) = windowed r.at (tree r.inner) span
-the_before (Last.OffsetWanted r window) = offset_wanted r.at (tree r.inner) window
-the_before (Last.OffsetBack r window) = offset_back r.at (tree r.inner) window
+the_before (Last.Measuring m) = the_measuring m
 the_before (Last.Complete e) = complete (tree e)
-the_before (Last.Operator p) = operated (the_joint p)
-the_before (Last.Compared p) = compared (the_joint p)
-the_before (Last.Matched p) = matched (the_joint p.pending) p.kind p.names
-the_before (Last.Joined p side) = many_read (the_joint p.pending) p.kind p.names side
-the_before (Last.With place) = with_read place
-the_before (Last.TemplateWanted s) = template_wanted (the_scope s)
-the_before (Last.TemplateName s h) = template_named (the_scope s) (the_head h)
-the_before (Last.InParams s h state) = in_params (the_scope s) (the_head h) state
-the_before (Last.TemplateHead s h ps) = template_headed (the_scope s) (the_head h) ps
+the_before (Last.Joining j) = the_joining j
+the_before (Last.Templating t) = the_templating t
 
 -- A step is that of the machine, unless memory runs out.
 abbrev pub Steps : Result Last StepError → List Open → Result State Wrong → Type 0

@@ -3,6 +3,7 @@
 
 mod fault;
 mod opening;
+mod reducing;
 mod stack;
 mod state;
 

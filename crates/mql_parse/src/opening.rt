@@ -1,8 +1,8 @@
 //! What is opened and closed on the stack.
 
-ghost use Rattle.std.specs.Prelude.{◌≡◌, [], ◌∷◌, nat_lt, true, false, OnOk, IfErr, MatchOption};
+ghost use Rattle.std.specs.Prelude.{◌≡◌, [], ◌∷◌, ◌<◌, nat_lt, true, false, OnOk, IfErr, IfNone, IfSome, MatchOption};
 ghost use Rattle.mql_parse.specs.Grammar.{deepest};
-ghost use Rattle.mql_parse.specs.Machine.{opened, opens};
+ghost use Rattle.mql_parse.specs.Machine.{opened, opens, ends, first_ends};
 ghost use Rattle.mql_parse.specs.Stack.{stack_of};
 ghost use Rattle.mql_parse.specs.Views.{the_frame, the_frames};
 ghost use Rattle.mql_parse.specs.declared.fault.StepError.TheVariants.{Refused};
@@ -11,6 +11,7 @@ ghost use Rattle.mql_parse.specs.declared.fault.Wrong.TheVariants.{TooDeep};
 use crate::fault::{StepError, Wrong};
 use crate::stack::{MAX_LEVELS, Stack};
 use crate::state::Open;
+use mql_lists::level_of;
 use std::alloc::{AllocError, Global};
 use vm_base::List;
 
@@ -52,10 +53,56 @@ impl Stack {
         Ok(())
     }
 
+    /// Whether one level more may be opened.
+    #[tactic(auto, unfolding(crate::specs::Stack::stack_of))]
+    pub(crate) fn has_room(&self) -> bool
+        ensures { result ≡ nat_lt (opened (the_frames (stack_of self.now))) deepest }
+    {
+        self.levels < MAX_LEVELS
+    }
+
+    /// Takes off the innermost where an operator of this level ends it. At 0 all end that need no
+    /// closing bracket.
+    pub(crate) fn pop_ended(&mut self, level: u8) -> Option<Open>
+        ensures kept { IfNone result (stack_of self.new ≡ stack_of self.old) }
+        ensures none { IfNone result (first_ends level (the_frames (stack_of self.old)) ≡ false) }
+        ensures popped { IfSome result (λ frame. stack_of self.old ≡ frame ∷ stack_of self.new) }
+        ensures ends { IfSome result (λ frame. ends level (the_frame frame) ≡ true) }
+    {
+        if self.innermost_ends(level) {
+            self.pop()
+        } else {
+            None
+        }
+    }
+
+    #[tactic(auto, unfolding(crate::specs::Stack::stack_of))]
+    fn innermost_ends(&self, level: u8) -> bool
+        ensures { result ≡ first_ends level (the_frames (stack_of self.now)) }
+    {
+        match self.opens.as_slice().last() {
+            Some(frame) => frame.ends(level),
+            None => false,
+        }
+    }
+
+    /// Opens a level in place of one that was taken off.
+    #[tactic(auto, unfolding(crate::specs::Stack::stack_of))]
+    pub(crate) fn reopen(&mut self, frame: Open) -> Result<(), AllocError>
+        requires level { opens (the_frame frame) ≡ true }
+        requires room { opened (the_frames (stack_of self.old)) < deepest }
+        ensures { OnOk result (stack_of self.new ≡ frame ∷ stack_of self.old) }
+    {
+        self.opens.push(frame)?;
+        self.levels += 1;
+        Ok(())
+    }
+
     /// Takes off the innermost.
     #[tactic(auto, unfolding(crate::specs::Stack::stack_of))]
     pub(crate) fn pop(&mut self) -> Option<Open>
-        ensures { MatchOption result ((stack_of self.old ≡ []) × (stack_of self.new ≡ [])) (λ frame. stack_of self.old ≡ frame ∷ stack_of self.new) }
+        ensures room { IfSome result (λ frame. opens (the_frame frame) ≡ true → opened (the_frames (stack_of self.new)) < deepest) }
+        ensures popped { MatchOption result ((stack_of self.old ≡ []) × (stack_of self.new ≡ [])) (λ frame. stack_of self.old ≡ frame ∷ stack_of self.new) }
     {
         let frame = self.opens.pop()?;
         if frame.is_level() {
@@ -66,6 +113,18 @@ impl Stack {
 }
 
 impl Open {
+    /// Whether an operator of this level ends it.
+    fn ends(&self, level: u8) -> bool
+        ensures { result ≡ ends level (the_frame self.now) }
+    {
+        match self {
+            Open::Negating(_) | Open::Adding => true,
+            Open::Operating(pending, _) => level <= level_of(pending.op),
+            Open::Scoped(_) => level == 0,
+            Open::Round | Open::Calling(_) | Open::Defining(_, _, _) => false,
+        }
+    }
+
     /// Whether it is a level.
     fn is_level(&self) -> bool
         ensures { result ≡ opens (the_frame self.now) }

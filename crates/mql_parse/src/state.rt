@@ -2,8 +2,15 @@
 
 use mql_expr::{Expr, Param, Template};
 use mql_lex::{Group, Many, MatchKind, Matching, Op, Span};
-use mql_lists::{BracesReader, NamesReader, ParamsReader};
+use mql_lists::{BracesReader, Class, NamesReader, ParamsReader};
 use vm_base::{List, Text};
+
+/// A token's place, in bytes from 0, and what it is to the language.
+#[derive(Clone, Copy)]
+pub(crate) struct Here {
+    pub at: u64,
+    pub class: Class,
+}
 
 /// A name at its place.
 #[derive(Drop)]
@@ -103,6 +110,19 @@ pub(crate) enum Last {
     InBraces(u64, Option<Text>, BracesReader),
     /// An expression that may take a window or an offset.
     Primary(Expr),
+    /// A window or an offset.
+    Measuring(Measuring),
+    /// An expression that takes neither.
+    Complete(Expr),
+    /// An operator.
+    Joining(Joining),
+    /// A `with`, as far as its templates.
+    Templating(Templating),
+}
+
+/// How far a window or an offset was read.
+#[derive(Drop)]
+pub(crate) enum Measuring {
     /// `[`
     WindowWanted(Ranging),
     /// `[` and a duration.
@@ -113,24 +133,31 @@ pub(crate) enum Last {
     OffsetWanted(Ranging, Option<Span>),
     /// `offset -`
     OffsetBack(Ranging, Option<Span>),
-    /// An expression that takes neither.
-    Complete(Expr),
-    /// An operator.
+}
+
+/// How far an operator was read, with what belongs to it.
+#[derive(Drop)]
+pub(crate) enum Joining {
     Operator(Pending),
-    /// An operator behind which `bool` can't stand any more.
+    /// Behind which `bool` can't stand any more.
     Compared(Pending),
-    /// An operator with `on` or `ignoring` and its names.
+    /// With `on` or `ignoring` and its names.
     Matched(Paired),
-    /// The same with `group_left` or `group_right`.
-    Joined(Paired, Many),
+    /// And with `group_left` or `group_right`.
+    Widened(Paired, Many),
+}
+
+/// How far the templates of a `with` were read.
+#[derive(Drop)]
+pub(crate) enum Templating {
     /// `with` at its place.
     With(u64),
     /// A template or `)` is wanted.
-    TemplateWanted(Scoping),
+    Wanted(Scoping),
     /// The name of a template.
-    TemplateName(Scoping, Heading),
+    Name(Scoping, Heading),
     /// Among the parameters of a template.
     InParams(Scoping, Heading, ParamsReader),
     /// A template with its parameters, before `=`.
-    TemplateHead(Scoping, Heading, List<Param>),
+    Head(Scoping, Heading, List<Param>),
 }
