@@ -3,6 +3,7 @@ mod Held
 pub mod Laws
 mod Limits
 mod Moves
+mod Openings
 mod Parts
 mod ToRead
 mod Viable

@@ -45,7 +45,7 @@ abbrev pub the_purpose : NamesFor → Purpose
 the_purpose (NamesFor.GroupBefore c by) = before_args (the_call c) by
 the_purpose (NamesFor.GroupAfter c by) = after_args (the_call c) by
 the_purpose (NamesFor.Pairs p kind) = matched_by (the_joint p) kind
-the_purpose (NamesFor.Taken p side) = taken_over (the_joint p.pending) p.kind p.names side
+the_purpose (NamesFor.Taken p) = taken_over (the_joint p.pending) p.kind p.names p.many
 
 abbrev pub the_measuring : Measuring → Before
 the_measuring (Measuring.WindowWanted r) = window_wanted r.at (tree r.inner)
@@ -58,7 +58,7 @@ abbrev pub the_joining : Joining → Before
 the_joining (Joining.Operator p) = operated (the_joint p)
 the_joining (Joining.Compared p) = compared (the_joint p)
 the_joining (Joining.Matched p) = matched (the_joint p.pending) p.kind p.names
-the_joining (Joining.Widened p side) = many_read (the_joint p.pending) p.kind p.names side
+the_joining (Joining.Widened p) = many_read (the_joint p.pending) p.kind p.names p.many
 
 abbrev pub the_templating : Templating → Before
 the_templating (Templating.With place) = with_read place

@@ -1,14 +1,11 @@
 //! What is opened and closed on the stack.
 
-ghost use Rattle.std.specs.Prelude.{◌≡◌, [], ◌∷◌, ◌<◌, nat_lt, true, false, OnOk, IfErr, IfNone, IfSome, MatchOption};
+ghost use Rattle.std.specs.Prelude.{◌≡◌, [], ◌∷◌, nat_lt, true, false, OnOk, IfNone, IfSome, MatchOption};
 ghost use Rattle.mql_parse.specs.Grammar.{deepest};
 ghost use Rattle.mql_parse.specs.Machine.{opened, opens, ends, first_ends};
 ghost use Rattle.mql_parse.specs.Stack.{stack_of};
 ghost use Rattle.mql_parse.specs.Views.{the_frame, the_frames};
-ghost use Rattle.mql_parse.specs.declared.fault.StepError.TheVariants.{Refused};
-ghost use Rattle.mql_parse.specs.declared.fault.Wrong.TheVariants.{TooDeep};
 
-use crate::fault::{StepError, Wrong};
 use crate::stack::{MAX_LEVELS, Stack};
 use crate::state::Open;
 use mql_lists::level_of;
@@ -27,29 +24,17 @@ impl Stack {
         }
     }
 
-    /// Opens what is no level.
+    /// Opens one more. Memory ends before the count of levels does.
     #[tactic(auto, unfolding(crate::specs::Stack::stack_of))]
     pub(crate) fn push(&mut self, frame: Open) -> Result<(), AllocError>
-        requires { opens (the_frame frame) ≡ false }
         ensures { OnOk result (stack_of self.new ≡ frame ∷ stack_of self.old) }
     {
-        self.opens.push(frame)?;
-        Ok(())
-    }
-
-    /// Opens a level, where there may be one more.
-    #[tactic(auto, unfolding(crate::specs::Stack::stack_of))]
-    pub(crate) fn open(&mut self, frame: Open) -> Result<(), StepError>
-        requires { opens (the_frame frame) ≡ true }
-        ensures opened { OnOk result (stack_of self.new ≡ frame ∷ stack_of self.old) }
-        ensures few { OnOk result (nat_lt (opened (the_frames (stack_of self.old))) deepest ≡ true) }
-        ensures deep { IfErr result (λ e. (e ≡ Refused TooDeep) → nat_lt (opened (the_frames (stack_of self.old))) deepest ≡ false) }
-    {
-        if self.levels >= MAX_LEVELS {
-            return Err(StepError::Refused(Wrong::TooDeep));
+        let mut levels = self.levels;
+        if frame.is_level() {
+            levels = levels.checked_add(1).ok_or(AllocError)?;
         }
         self.opens.push(frame)?;
-        self.levels += 1;
+        self.levels = levels;
         Ok(())
     }
 
@@ -86,23 +71,11 @@ impl Stack {
         }
     }
 
-    /// Opens a level in place of one that was taken off.
-    #[tactic(auto, unfolding(crate::specs::Stack::stack_of))]
-    pub(crate) fn reopen(&mut self, frame: Open) -> Result<(), AllocError>
-        requires level { opens (the_frame frame) ≡ true }
-        requires room { opened (the_frames (stack_of self.old)) < deepest }
-        ensures { OnOk result (stack_of self.new ≡ frame ∷ stack_of self.old) }
-    {
-        self.opens.push(frame)?;
-        self.levels += 1;
-        Ok(())
-    }
-
     /// Takes off the innermost.
     #[tactic(auto, unfolding(crate::specs::Stack::stack_of))]
     pub(crate) fn pop(&mut self) -> Option<Open>
-        ensures room { IfSome result (λ frame. opens (the_frame frame) ≡ true → opened (the_frames (stack_of self.new)) < deepest) }
-        ensures popped { MatchOption result ((stack_of self.old ≡ []) × (stack_of self.new ≡ [])) (λ frame. stack_of self.old ≡ frame ∷ stack_of self.new) }
+        ensures { MatchOption result ((stack_of self.old ≡ []) × (stack_of self.new ≡ []))
+            (λ frame. stack_of self.old ≡ frame ∷ stack_of self.new) }
     {
         let frame = self.opens.pop()?;
         if frame.is_level() {

@@ -135,7 +135,7 @@ fn next_item(stack: &mut Stack, expr: Expr) -> Result<Last, StepError>
     match stack.pop() {
         Some(Open::Calling(call)) => {
             let call = with_arg(call, expr)?;
-            stack.reopen(Open::Calling(call))?;
+            stack.push(Open::Calling(call))?;
             Ok(Last::Nothing)
         }
         Some(Open::Defining(scope, head, params)) => {

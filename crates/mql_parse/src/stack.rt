@@ -1,6 +1,6 @@
 //! What is open around the next token.
 
-ghost use Rattle.std.specs.Prelude.{◌≡◌, ◌≤◌, reverse};
+ghost use Rattle.std.specs.Prelude.{◌≡◌, reverse};
 ghost use Rattle.mql_parse.specs.Machine.{opened};
 ghost use Rattle.mql_parse.specs.Views.{the_frames};
 
@@ -19,5 +19,4 @@ pub(crate) struct Stack {
     // how many of them are levels
     pub(crate) levels: u64,
     ghost counted: { levels ≡ opened (the_frames (reverse opens)) },
-    ghost few: { levels ≤ 100 },
 }

@@ -71,7 +71,7 @@ pub(crate) enum NamesFor {
     GroupBefore(Calling, bool),
     GroupAfter(Calling, bool),
     Pairs(Pending, MatchKind),
-    Taken(Paired, Many),
+    Taken(Paired),
 }
 
 /// An operator with `on` or `ignoring` and its names.
@@ -80,6 +80,8 @@ pub(crate) struct Paired {
     pub pending: Pending,
     pub kind: MatchKind,
     pub names: List<Text>,
+    /// Which side may have many lines, where it is written.
+    pub many: Many,
 }
 
 /// An expression and the place of the window or the offset behind it.
@@ -144,7 +146,7 @@ pub(crate) enum Joining {
     /// With `on` or `ignoring` and its names.
     Matched(Paired),
     /// And with `group_left` or `group_right`.
-    Widened(Paired, Many),
+    Widened(Paired),
 }
 
 /// How far the templates of a `with` were read.
