@@ -1,3 +1,4 @@
+mod Falls
 mod FromRead
 mod Held
 pub mod Laws

@@ -1,19 +1,23 @@
-//! Expressions.
+//! Queries, from their tokens.
 #![tactic(auto)]
 
+mod duration;
 mod fault;
+mod joining;
+mod measuring;
+mod naming;
 mod opening;
+mod operand;
+mod parse_fault;
+mod parser;
 mod reducing;
 mod stack;
 mod state;
+mod step;
+mod templating;
+#[cfg(test)]
+mod tests;
+mod wanted;
 
-ghost use Rattle.std.specs.Prelude.{List, ◌≡◌, Some};
-ghost use Rattle.vm_base.specs.Run.{result};
-ghost use Rattle.mql_parse.specs.Grammar.{IsExpr, IsAnyExpr};
-ghost use Rattle.mql_parse.specs.Machine.{step, final_of, start};
-ghost use Rattle.mql_lists.specs.Words.{Word};
-
-/// A law.
-pub fn law()
-    ensures { (words : List Word) → IsExpr 0 words → IsAnyExpr words }
-{}
+pub use parse_fault::ParseFault;
+pub use parser::parse;

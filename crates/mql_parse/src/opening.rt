@@ -1,6 +1,6 @@
 //! What is opened and closed on the stack.
 
-ghost use Rattle.std.specs.Prelude.{◌≡◌, [], ◌∷◌, nat_lt, true, false, OnOk, IfNone, IfSome, MatchOption};
+ghost use Rattle.std.specs.Prelude.{◌≡◌, [], ◌∷◌, ◌==◌, length, nat_lt, true, false, OnOk, IfNone, IfSome, MatchOption};
 ghost use Rattle.mql_parse.specs.Grammar.{deepest};
 ghost use Rattle.mql_parse.specs.Machine.{opened, opens, ends, first_ends};
 ghost use Rattle.mql_parse.specs.Stack.{stack_of};
@@ -36,6 +36,14 @@ impl Stack {
         self.opens.push(frame)?;
         self.levels = levels;
         Ok(())
+    }
+
+    /// Whether nothing is open.
+    #[tactic(auto, unfolding(crate::specs::Stack::stack_of))]
+    pub(crate) fn is_empty(&self) -> bool
+        ensures { result ≡ (length (stack_of self.now) == 0) }
+    {
+        self.opens.len() == 0
     }
 
     /// Whether one level more may be opened.
