@@ -1,6 +1,6 @@
 -- What numbers and durations say. (MetricsQL, "MetricsQL features": durations)
-use Rattle.std.specs.Prelude.{ℕ, ◌+◌, ◌*◌, ◌^◌, ◌==◌, ◌&&◌, nat_lt, ℤ, pos, ◌-ℤ◌, Bool, false, List, [], ◌∷◌, Option, Some, None, Result, Ok, Err, if◌then◌else◌}
-use Rattle.std.specs.Char.{is_ascii_digit, digit_value}
+use Rattle.std.specs.Prelude.{◌≡◌, ℕ, min, ◌+◌, ◌-◌, ◌*◌, ◌^◌, ◌==◌, ◌&&◌, nat_lt, ℤ, pos, ◌-ℤ◌, Bool, false, List, [], ◌∷◌, Option, Some, None, Result, Ok, Err, if◌then◌else◌}
+use Rattle.std.specs.Char.{is_ascii_digit}
 use Rattle.vm_decimal.specs.DecText.{dec_reading}
 use Rattle.vm_decimal.specs.declared.sample_text.NumFault.{NumFault}
 use Rattle.mql_lex.specs.declared.span.Span.{Span}
@@ -51,7 +51,7 @@ plus l k = record { ms = l.ms + k.ms; steps = l.steps + k.steps }
 abbrev pub length_behind : ℕ → List ℕ → Length
 length_behind count [] = some_ms 0
 length_behind count (b ∷ more) =
-    if is_ascii_digit b then length_behind (count * 10 + digit_value b) more
+    if is_ascii_digit b then length_behind (count * 10 + (b - 48)) more
     else plus (times count (unit_at b more)) (length_behind 0 more)
 
 -- the sum of what a duration counts
@@ -67,3 +67,7 @@ ahead l = record { ms = pos l.ms; steps = pos l.steps }
 
 abbrev pub back : Length → Span
 back l = record { ms = pos 0 -ℤ pos l.ms; steps = pos 0 -ℤ pos l.steps }
+
+-- the same number as far as 2^48
+abbrev pub AsFar : ℕ → ℕ → Type 0
+AsFar n m = min n (2 ^ 48) ≡ min m (2 ^ 48)

@@ -5,6 +5,7 @@ use Rattle.mql_parse.specs.Machine.{State, at, Frame, in_parens, in_minus, in_pl
 use Rattle.mql_parse.specs.declared.fault.Wrong.{Wrong}
 use Rattle.mql_parse.specs.declared.fault.StepError.{StepError}
 use Rattle.mql_parse.specs.declared.fault.StepError.TheVariants.{Memory, Refused}
+use Rattle.mql_parse.specs.declared.parse_fault.ParseFault.{ParseFault}
 use Rattle.mql_parse.specs.declared.state.Calling.{Calling}
 use Rattle.mql_parse.specs.declared.state.Heading.{Heading}
 use Rattle.mql_parse.specs.declared.state.Last.{Last}
@@ -81,6 +82,13 @@ the_before (Last.Measuring m) = the_measuring m
 the_before (Last.Complete e) = complete (tree e)
 the_before (Last.Joining j) = the_joining j
 the_before (Last.Templating t) = the_templating t
+
+-- the fault of a token at a place
+abbrev pub the_fault : StepError → ℕ → ParseFault
+the_fault Memory place = ParseFault.Memory
+the_fault (Refused Wrong.Unexpected) place = ParseFault.Unexpected place
+the_fault (Refused Wrong.TooDeep) place = ParseFault.TooDeep place
+the_fault (Refused Wrong.NumberTooWide) place = ParseFault.NumberTooWide place
 
 -- A step is that of the machine, unless memory runs out.
 abbrev pub Steps : Result Last StepError → List Open → Result State Wrong → Type 0

@@ -1,9 +1,8 @@
 //! What a duration says. (MetricsQL, "MetricsQL features": durations)
 
-ghost use Rattle.std.specs.Prelude.{◌≡◌, ◌≤◌, ◌+◌, ◌*◌, ◌^◌, true, false, min, MatchOption};
-ghost use Rattle.std.specs.Char.{is_ascii_digit, digit_value};
+ghost use Rattle.std.specs.Prelude.{◌≡◌, ◌≤◌, ◌+◌, ◌*◌, ◌^◌, ◌∷◌, true, false, min, MatchOption};
 ghost use Rattle.mql_lex.specs.Tokens.{StandsIn, slice_of};
-ghost use Rattle.mql_parse.specs.Values.{ahead, is_short, length_of, unit_at as unit_of_text};
+ghost use Rattle.mql_parse.specs.Values.{ahead, is_short, length_of, length_behind, unit_at as unit_of_text, AsFar};
 
 use mql_lex::{Span, Token};
 
@@ -28,62 +27,72 @@ pub(crate) fn duration(text: &str, token: Token) -> Option<Span>
     }
 }
 
-/// Some ms and some steps. From `MAX_LENGTH` on each stands still.
+/// What a duration counts up to some byte. From `MAX_LENGTH` on each number stands still.
 #[derive(Clone, Copy)]
-struct Length {
+struct Sum {
+    ms: u64,
+    steps: u64,
+    /// The number whose digits stand before the byte.
+    count: u64,
+    ghost few: { (ms ≤ 2 ^ 48) × (steps ≤ 2 ^ 48) × (count ≤ 2 ^ 48) },
+}
+
+/// The sum of what a duration counts.
+#[tactic(auto, unfolding(crate::specs::Values::length_of))]
+fn added(text: &[u8]) -> Sum
+    ensures ms { AsFar result.ms (length_of text.now).ms }
+    ensures steps { AsFar result.steps (length_of text.now).steps }
+{
+    let mut sum = Sum {
+        ms: 0,
+        steps: 0,
+        count: 0,
+    };
+    let mut rest = text;
+    'bytes: while let Some((byte, more)) = rest.split_first() {
+        sum = taken(sum, *byte, more);
+        rest = more;
+    }
+    sum
+}
+
+/// The sum behind one more byte.
+#[tactic(auto, using(crate::proofs::Sums::digit_ms, crate::proofs::Sums::digit_steps, crate::proofs::Sums::unit_ms, crate::proofs::Sums::unit_steps))]
+fn taken(sum: Sum, byte: u8, more: &[u8]) -> Sum
+    ensures ms { AsFar (result.ms + (length_behind result.count more.now).ms) (sum.ms + (length_behind sum.count (byte ∷ more.now)).ms) }
+    ensures steps { AsFar (result.steps + (length_behind result.count more.now).steps) (sum.steps + (length_behind sum.count (byte ∷ more.now)).steps) }
+{
+    if byte.is_ascii_digit() {
+        let count = (sum.count * 10 + u64::from(byte - b'0')).min(MAX_LENGTH);
+        return Sum {
+            ms: sum.ms,
+            steps: sum.steps,
+            count,
+        };
+    }
+    let unit = unit_at(byte, more);
+    Sum {
+        ms: (sum.ms + times(sum.count, unit.ms)).min(MAX_LENGTH),
+        steps: (sum.steps + times(sum.count, unit.steps)).min(MAX_LENGTH),
+        count: 0,
+    }
+}
+
+fn times(count: u64, unit: u64) -> u64
+    ensures { result ≡ min (count * unit) (2 ^ 48) }
+{
+    count.saturating_mul(unit).min(MAX_LENGTH)
+}
+
+/// What one of a unit is.
+#[derive(Clone, Copy)]
+struct UnitLength {
     ms: u64,
     steps: u64,
 }
 
-/// The sum of what a duration counts.
-fn added(text: &[u8]) -> Length
-    ensures ms { result.ms ≡ min (length_of text.now).ms (2 ^ 48) }
-    ensures steps { result.steps ≡ min (length_of text.now).steps (2 ^ 48) }
-{
-    let mut total = Length { ms: 0, steps: 0 };
-    let mut count = 0;
-    for (at, byte) in text.iter().enumerate() {
-        if byte.is_ascii_digit() {
-            count = with_digit(count, *byte);
-        } else {
-            total = plus(total, times(count, unit_at(*byte, &text[at + 1..])));
-            count = 0;
-        }
-    }
-    total
-}
-
-fn with_digit(count: u64, digit: u8) -> u64
-    requires few { count ≤ 2 ^ 48 }
-    requires digit { is_ascii_digit digit ≡ true }
-    ensures { result ≡ min (count * 10 + digit_value digit) (2 ^ 48) }
-{
-    (count * 10 + u64::from(digit - b'0')).min(MAX_LENGTH)
-}
-
-fn times(count: u64, unit: Length) -> Length
-    ensures ms { result.ms ≡ min (count * unit.ms) (2 ^ 48) }
-    ensures steps { result.steps ≡ min (count * unit.steps) (2 ^ 48) }
-{
-    Length {
-        ms: count.saturating_mul(unit.ms).min(MAX_LENGTH),
-        steps: count.saturating_mul(unit.steps).min(MAX_LENGTH),
-    }
-}
-
-fn plus(one: Length, other: Length) -> Length
-    requires { (one.ms ≤ 2 ^ 48) × (one.steps ≤ 2 ^ 48) × (other.ms ≤ 2 ^ 48) × (other.steps ≤ 2 ^ 48) }
-    ensures ms { result.ms ≡ min (one.ms + other.ms) (2 ^ 48) }
-    ensures steps { result.steps ≡ min (one.steps + other.steps) (2 ^ 48) }
-{
-    Length {
-        ms: (one.ms + other.ms).min(MAX_LENGTH),
-        steps: (one.steps + other.steps).min(MAX_LENGTH),
-    }
-}
-
 /// One of the unit whose first letter stands before some more text.
-fn unit_at(letter: u8, more: &[u8]) -> Length
+fn unit_at(letter: u8, more: &[u8]) -> UnitLength
     ensures { unit_of_text letter more.now ≡ record { ms = result.ms; steps = result.steps } }
 {
     let ms = match letter {
@@ -94,7 +103,7 @@ fn unit_at(letter: u8, more: &[u8]) -> Length
         b'd' => 86_400_000,
         b'w' => 604_800_000,
         b'y' => 31_536_000_000,
-        _ => return Length { ms: 0, steps: 1 },
+        _ => return UnitLength { ms: 0, steps: 1 },
     };
-    Length { ms, steps: 0 }
+    UnitLength { ms, steps: 0 }
 }

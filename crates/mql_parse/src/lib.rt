@@ -4,6 +4,7 @@
 mod duration;
 mod fault;
 mod joining;
+mod laws;
 mod measuring;
 mod naming;
 mod opening;
@@ -19,5 +20,6 @@ mod templating;
 mod tests;
 mod wanted;
 
+pub use laws::{expressions_are_read, words_are_one_expression, wrong_words_are_named};
 pub use parse_fault::ParseFault;
 pub use parser::parse;

@@ -1,15 +1,15 @@
 //! Queries, from their tokens.
 
-ghost use Rattle.std.specs.Prelude.{All, ◌≡◌, ℕ, length, Err, IfOk, OnOk};
+ghost use Rattle.std.specs.Prelude.{◌≡◌, ℕ, true, false, length, Err, IfOk};
 ghost use Rattle.std.specs.Option.{option_map};
 ghost use Rattle.mql_expr.specs.Tree.{tree};
-ghost use Rattle.mql_lex.specs.Tokens.{StandsIn};
+ghost use Rattle.mql_lex.specs.Tokens.{AreTokens};
 ghost use Rattle.mql_lists.specs.Words.{words_of};
 ghost use Rattle.mql_parse.specs.Faults.{IsUnexpected, IsBeyond};
 ghost use Rattle.mql_parse.specs.Grammar.{Spells};
 ghost use Rattle.mql_parse.specs.Machine.{end_with, standing as stands_there};
 ghost use Rattle.mql_parse.specs.Stack.{stack_of};
-ghost use Rattle.mql_parse.specs.Views.{the_before, the_frames};
+ghost use Rattle.mql_parse.specs.Views.{the_before, the_fault, the_frames, the_measuring};
 ghost use Rattle.mql_parse.specs.declared.parse_fault.ParseFault.TheVariants.{Unexpected, TooDeep, NumberTooWide};
 
 use crate::fault::{StepError, Wrong};
@@ -23,9 +23,14 @@ use mql_expr::Expr;
 use mql_lex::Token;
 use std::alloc::{AllocError, Global};
 
-/// Reads the tokens of a text as a query.
+/// Reads the tokens of a text, which `mql_lex::tokens` gives, as a query. The limits are 100 levels,
+/// numbers of the store and durations below 2^48 ms and 2^48 steps. The first fault in the text is
+/// named. The frames of what is open stand on the heap, so no depth of a text is a danger to the stack.
+///
+/// (MetricsQL; PromQL, "Operators", "Binary operator precedence", "Aggregation operators", "Range
+/// Vector Selectors", "Offset modifier"; MetricsQL, "WITH templates")
 pub fn parse(alloc: Global, text: &str, tokens: &[Token]) -> Result<Expr, ParseFault>
-    requires tokens { All (StandsIn text.now) tokens.now }
+    requires tokens { AreTokens text.now tokens.now }
     // What `Ok` holds.
     ensures found { IfOk result (λ expr. Spells (length text.now) (words_of text.now tokens.now) (tree expr)) }
 
@@ -51,7 +56,9 @@ pub fn parse(alloc: Global, text: &str, tokens: &[Token]) -> Result<Expr, ParseF
 }
 
 /// The fault of a token at this place.
-fn fault_at(e: StepError, at: u64) -> ParseFault {
+fn fault_at(e: StepError, at: u64) -> ParseFault
+    ensures { result ≡ the_fault e at }
+{
     match e {
         StepError::Memory => ParseFault::Memory,
         StepError::Refused(Wrong::Unexpected) => ParseFault::Unexpected { at },
@@ -61,6 +68,7 @@ fn fault_at(e: StepError, at: u64) -> ParseFault {
 }
 
 /// The whole expression where the text ends, none where it ends too early.
+#[tactic(auto, using(crate::proofs::Endings::end_there, crate::proofs::Endings::none_there))]
 fn whole(alloc: Global, stack: &mut Stack, last: Last) -> Result<Option<Expr>, AllocError>
     ensures { IfOk result (λ found. option_map tree found ≡ end_with (the_frames (stack_of stack.old)) (stands_there (the_before last))) }
 {
@@ -83,9 +91,20 @@ fn standing(alloc: Global, last: Last) -> Result<Option<Expr>, AllocError>
         Last::Name(head) => Ok(Some(metric(alloc, head))),
         Last::Called(call) | Last::Regrouped(call) => Ok(Some(whole_call(call, false))),
         Last::Primary(expr) | Last::Complete(expr) => Ok(Some(expr)),
-        Last::Measuring(Measuring::Windowed(ranging, span)) => {
+        Last::Measuring(state) => windowed(alloc, state),
+        _ => Ok(None),
+    }
+}
+
+/// An expression with its window, where that is read.
+fn windowed(alloc: Global, state: Measuring) -> Result<Option<Expr>, AllocError>
+    ensures { IfOk result (λ found. option_map tree found ≡ stands_there (the_measuring state)) }
+{
+    match state {
+        Measuring::Windowed(ranging, span) => {
             let Ranging { at, inner } = ranging;
-            Ok(Some(Expr::ranged(alloc, at, inner, Some(span), None)?))
+            let expr = Expr::ranged(alloc, at, inner, Some(span), None)?;
+            Ok(Some(expr))
         }
         _ => Ok(None),
     }
