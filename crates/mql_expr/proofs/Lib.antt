@@ -1,0 +1,4 @@
+mod FaultLaws
+mod NamesLaws
+pub mod PartedLaws
+mod TreeLaws

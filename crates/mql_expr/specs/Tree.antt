@@ -9,7 +9,7 @@ use Rattle.mql_expr.specs.declared.item.Item.{Item}
 use Rattle.mql_expr.specs.declared.expr.Param.{Param}
 use Rattle.mql_expr.specs.declared.expr.Template.{Template, fold-Template}
 use Rattle.mql_expr.specs.declared.expr.Expr.{Expr, fold-Expr}
-use Rattle.mql_expr.specs.declared.expr.Node.TheOpen.{Node-F, Expr-F, Template-F}
+use Rattle.mql_expr.specs.declared.expr.Node.TheOpen.{Node-F, Template-F}
 
 mutual
   pub data Tree : Type 0 where

@@ -6,10 +6,31 @@
 //! `vm_decimal` for numbers and on `vm_base` for lists and texts.
 #![tactic(auto)]
 
+mod arguments;
 mod build;
+#[cfg(test)]
+mod check_tests;
 mod expr;
+mod fault;
 mod item;
+mod kinds;
+mod levels;
+mod names;
+mod print_parts;
+#[cfg(test)]
+mod print_tests;
+mod query_check;
+mod query_text;
+mod span_text;
+#[cfg(test)]
+mod trees;
 
+pub use arguments::{Kind, Rest};
 pub use build::{Called, Joint};
 pub use expr::{Expr, Node, Param, Template};
+pub use fault::CheckFault;
 pub use item::Item;
+pub use levels::level_of_op;
+pub use names::{Aggregate, Function, Known, Rollup};
+pub use query_check::check;
+pub use query_text::print;

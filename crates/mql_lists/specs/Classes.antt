@@ -3,7 +3,6 @@ use Rattle.std.specs.Prelude.{ℕ, Bool, true, false, List, [], ◌∷◌, Optio
 use Rattle.std.specs.Str.{str_eq_ignore_ascii_case}
 use Rattle.mql_lex.specs.declared.token.TokenKind.{TokenKind}
 use Rattle.mql_lex.specs.declared.token.TokenKind.TheVariants.{Name, Number, Duration, Str, Mark}
-use Rattle.mql_lex.specs.declared.operator.Op.{Op}
 use Rattle.mql_lex.specs.declared.operator.Op.TheVariants.{Default, If, IfNot, Or, And, Unless, Equal, Differs, AtMost, AtLeast, Below, Above, Add, Sub, Mul, Div, Rem}
 use Rattle.mql_lex.specs.declared.group.MatchKind.TheVariants.{On, Ignoring}
 use Rattle.mql_lex.specs.declared.group.Many.TheVariants.{Left, Right}
@@ -64,23 +63,3 @@ filter_op (Operator Differs) = Some DiffersFrom
 filter_op Like = Some Matches
 filter_op Unlike = Some MatchesNot
 filter_op _ = None
-
--- how closely an operator binds, the loosest 1: those of one level stand on a line
-abbrev pub level_of : Op → ℕ
-level_of Default = 1
-level_of If = 2
-level_of IfNot = 2
-level_of Or = 3
-level_of And = 4
-level_of Unless = 4
-level_of Equal = 5
-level_of Differs = 5
-level_of AtMost = 5
-level_of AtLeast = 5
-level_of Below = 5
-level_of Above = 5
-level_of Add = 6
-level_of Sub = 6
-level_of Mul = 7
-level_of Div = 7
-level_of Rem = 7

@@ -1,10 +1,16 @@
 //! What stands between the braces of a selector, as `{job="api", env=~"dev.*" or job="web"}`.
 
-ghost use Rattle.std.specs.Prelude.{◌≡◌, [], ◌∷◌, ◌++◌, IfOk};
+ghost use Rattle.std.specs.Prelude.{◌≡◌, IfOk};
 ghost use Rattle.mql_lex.specs.Tokens.{StandsIn, slice_of};
 ghost use Rattle.mql_lists.specs.Words.{word_of};
 ghost use Rattle.mql_lists.specs.Values.{value_of};
-ghost use Rattle.mql_lists.specs.Machines.{braces_start, braces_step, word_role, goes as goes_on, done as ended, with_item as one_more, with_list as list_more, named_item, filter_item, begins_item as item_begun, at_first as first_turn, behind_item as item_turn, behind_name as name_turn, behind_sign as sign_turn, after_comma as comma_turn, after_or as or_turn};
+ghost use Rattle.mql_lists.specs.Machines.{braces_start, braces_step, word_role};
+ghost use Rattle.mql_lists.specs.Machines.{goes as goes_on, done as ended, with_item as one_more};
+ghost use Rattle.mql_lists.specs.Machines.{with_list as list_more, filter_item};
+ghost use Rattle.mql_lists.specs.Machines.{begins_item as item_begun, at_first as first_turn};
+ghost use Rattle.mql_lists.specs.Machines.{behind_item as item_turn, behind_name as name_turn};
+ghost use Rattle.mql_lists.specs.Machines.{after_comma as comma_turn};
+ghost use Rattle.mql_lists.specs.declared.braces.Place.TheVariants.{BehindItem};
 
 use crate::progress::Progress;
 use crate::role::{Role, role_of_token};
@@ -97,13 +103,19 @@ impl BracesReader {
         let BracesReader { found, place } = self;
         let role = role_of_token(text, token);
         match place {
-            Place::First => at_first(alloc, found, text, token),
-            Place::Wanted => begins_item(alloc, found, text, token),
+            Place::First => at_first(alloc, found, text, token, role),
+            Place::Wanted => begins_item(alloc, found, text, token, role),
             Place::AtName(head) => behind_name(alloc, found, head, role),
-            Place::AtSign(begun) => behind_sign(alloc, found, begun, text, token),
+            Place::AtSign(begun) => match role {
+                Role::Value => behind_sign(alloc, found, begun, text, token),
+                _ => Ok(None),
+            },
             Place::BehindItem => behind_item(alloc, found, role),
-            Place::AfterComma => after_comma(alloc, found, text, token),
-            Place::AfterOr(name) => after_or(alloc, found, name, text, token),
+            Place::AfterComma => after_comma(alloc, found, text, token, role),
+            Place::AfterOr(name) => match role {
+                Role::Compare(op) => Ok(goes(found, Place::AtSign(Begun { name, op }))),
+                _ => begins_list(alloc, found, text, token, role),
+            },
         }
     }
 }
@@ -144,11 +156,17 @@ fn with_list(alloc: Global, found: Gathered) -> Result<Gathered, AllocError>
 }
 
 /// Takes a name at the beginning of an item.
-fn begins_item(alloc: Global, found: Gathered, text: &str, token: Token) -> Result<Turn, AllocError>
-    requires { StandsIn text.now token }
-    ensures { IfOk result (λ turn. turn ≡ item_begun found (word_of text.now token) (word_role (word_of text.now token))) }
+fn begins_item(
+    alloc: Global,
+    found: Gathered,
+    text: &str,
+    token: Token,
+    role: Role,
+) -> Result<Turn, AllocError>
+    requires stands { StandsIn text.now token }
+    requires role { role ≡ word_role (word_of text.now token) }
+    ensures { IfOk result (λ turn. turn ≡ item_begun found (word_of text.now token) role) }
 {
-    let role = role_of_token(text, token);
     if !role.is_label() {
         return Ok(None);
     }
@@ -160,13 +178,36 @@ fn begins_item(alloc: Global, found: Gathered, text: &str, token: Token) -> Resu
     Ok(goes(found, Place::AtName(head)))
 }
 
-fn at_first(alloc: Global, found: Gathered, text: &str, token: Token) -> Result<Turn, AllocError>
-    requires { StandsIn text.now token }
-    ensures { IfOk result (λ turn. turn ≡ first_turn found (word_of text.now token) (word_role (word_of text.now token))) }
+/// Ends a list and takes a name at the beginning of an item.
+fn begins_list(
+    alloc: Global,
+    found: Gathered,
+    text: &str,
+    token: Token,
+    role: Role,
+) -> Result<Turn, AllocError>
+    requires stands { StandsIn text.now token }
+    requires role { role ≡ word_role (word_of text.now token) }
+    ensures { IfOk result (λ turn. turn ≡ item_begun (list_more found) (word_of text.now token) role) }
 {
-    match role_of_token(text, token) {
+    let found = with_list(alloc, found)?;
+    begins_item(alloc, found, text, token, role)
+}
+
+fn at_first(
+    alloc: Global,
+    found: Gathered,
+    text: &str,
+    token: Token,
+    role: Role,
+) -> Result<Turn, AllocError>
+    requires stands { StandsIn text.now token }
+    requires role { role ≡ word_role (word_of text.now token) }
+    ensures { IfOk result (λ turn. turn ≡ first_turn found (word_of text.now token) role) }
+{
+    match role {
         Role::EndCurly => done(found),
-        _ => begins_item(alloc, found, text, token),
+        _ => begins_item(alloc, found, text, token, role),
     }
 }
 
@@ -210,51 +251,35 @@ fn behind_sign(
     text: &str,
     token: Token,
 ) -> Result<Turn, AllocError>
-    requires { StandsIn text.now token }
-    ensures { IfOk result (λ turn. turn ≡ sign_turn found begun (word_of text.now token) (word_role (word_of text.now token))) }
+    requires stands { StandsIn text.now token }
+    requires quoted { token.kind ≡ TokenKind.Str }
+    ensures { let item = filter_item begun (value_of (slice_of text.now token)) in
+        IfOk result (λ turn. turn ≡ goes_on (one_more found item) BehindItem) }
 {
-    match role_of_token(text, token) {
-        Role::Value => {
-            let Begun { name, op } = begun;
-            let value = unquote(alloc, text, token)?;
-            let found = with_item(found, Item::Is(Filter { name, op, value }))?;
-            Ok(goes(found, Place::BehindItem))
-        }
-        _ => Ok(None),
-    }
+    let Begun { name, op } = begun;
+    let value = unquote(alloc, text, token)?;
+    let found = with_item(found, Item::Is(Filter { name, op, value }))?;
+    Ok(goes(found, Place::BehindItem))
 }
 
 /// Behind a comma, where `or` may be a name or part two lists.
-fn after_comma(alloc: Global, found: Gathered, text: &str, token: Token) -> Result<Turn, AllocError>
-    requires { StandsIn text.now token }
-    ensures { IfOk result (λ turn. turn ≡ comma_turn found (word_of text.now token) (word_role (word_of text.now token))) }
+fn after_comma(
+    alloc: Global,
+    found: Gathered,
+    text: &str,
+    token: Token,
+    role: Role,
+) -> Result<Turn, AllocError>
+    requires stands { StandsIn text.now token }
+    requires role { role ≡ word_role (word_of text.now token) }
+    ensures { IfOk result (λ turn. turn ≡ comma_turn found (word_of text.now token) role) }
 {
-    match role_of_token(text, token) {
+    match role {
         Role::Either => {
             let name = name_text(alloc, text, token)?;
             Ok(goes(found, Place::AfterOr(name)))
         }
         Role::EndCurly => done(found),
-        _ => begins_item(alloc, found, text, token),
-    }
-}
-
-/// Behind `or` behind a comma.
-fn after_or(
-    alloc: Global,
-    found: Gathered,
-    name: Text,
-    text: &str,
-    token: Token,
-) -> Result<Turn, AllocError>
-    requires { StandsIn text.now token }
-    ensures { IfOk result (λ turn. turn ≡ or_turn found name (word_of text.now token) (word_role (word_of text.now token))) }
-{
-    match role_of_token(text, token) {
-        Role::Compare(op) => Ok(goes(found, Place::AtSign(Begun { name, op }))),
-        _ => {
-            let found = with_list(alloc, found)?;
-            begins_item(alloc, found, text, token)
-        }
+        _ => begins_item(alloc, found, text, token, role),
     }
 }

@@ -3,7 +3,8 @@
 ghost use Rattle.std.specs.Prelude.{◌≡◌, ◌≤◌, ◌+◌, length, map, unwrap_or};
 ghost use Rattle.std.specs.Str.{str_eq_ignore_ascii_case};
 ghost use Rattle.mql_lists.specs.Words.{word_of};
-ghost use Rattle.mql_lists.specs.Classes.{class_of_word, class_in, class_of_name as named_class, class_of_mark as mark_class, filter_op as op_of, level_of as level};
+ghost use Rattle.mql_lists.specs.Classes.{class_of_word, class_in, class_of_name as named_class};
+ghost use Rattle.mql_lists.specs.Classes.{class_of_mark as mark_class, filter_op as op_of};
 ghost use Rattle.mql_lists.specs.declared.class.Class.{Class as ClassOf};
 
 use mql_lex::{Many, MatchKind, Op, Token, TokenKind};
@@ -109,8 +110,9 @@ fn class_of_name(name: &[u8]) -> Class
 
 /// The class of the row whose word a name is, without regard to ASCII case.
 fn reserved_class(name: &[u8], rows: &[(&str, Class)]) -> Option<Class>
-    ensures { (other : ClassOf) → unwrap_or result other
-        ≡ class_in (map (λ row. (row.0.now, row.1)) rows.now) (str_eq_ignore_ascii_case name.now) other }
+    ensures { let table = map (λ row. (row.0.now, row.1)) rows.now in
+        (other : ClassOf) → unwrap_or result other
+        ≡ class_in table (str_eq_ignore_ascii_case name.now) other }
 {
     for (word, class) in rows {
         if is_word(name, word) {
@@ -167,21 +169,5 @@ pub fn filter_op(class: Class) -> Option<FilterOp>
         Class::Like => Some(FilterOp::Matches),
         Class::Unlike => Some(FilterOp::MatchesNot),
         _ => None,
-    }
-}
-
-/// How closely an operator binds: 1 for `default`, the loosest, to 7 for `*`, `/` and `%`.
-/// (PromQL, "Binary operator precedence"; MetricsQL)
-pub fn level_of(op: Op) -> u8
-    ensures { result ≡ level op }
-{
-    match op {
-        Op::Default => 1,
-        Op::If | Op::IfNot => 2,
-        Op::Or => 3,
-        Op::And | Op::Unless => 4,
-        Op::Equal | Op::Differs | Op::AtMost | Op::AtLeast | Op::Below | Op::Above => 5,
-        Op::Add | Op::Sub => 6,
-        Op::Mul | Op::Div | Op::Rem => 7,
     }
 }

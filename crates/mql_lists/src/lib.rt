@@ -26,7 +26,7 @@ mod tests;
 mod word;
 
 pub use braces::BracesReader;
-pub use class::{Class, class_of, filter_op, level_of};
+pub use class::{Class, class_of, filter_op};
 pub use laws::{braces_are_read, names_are_read, params_are_read};
 pub use names::NamesReader;
 pub use params::ParamsReader;

@@ -12,7 +12,8 @@ use Rattle.mql_lists.specs.Words.{Word}
 use Rattle.mql_lists.specs.Progress.{leads}
 use Rattle.mql_lists.specs.Machines.{names_step, names_start, params_step, params_start, braces_step, braces_start}
 use Rattle.mql_lists.specs.declared.class.Class.{Class}
-use Rattle.mql_parse.specs.Grammar.{Is, level, MayOpen, ListedNames, GroupIfAny, TruthIfAny, Mods, Offset, OffsetIfAny, ParamsIfAny, postfix, Reads, Primary, Args, Templates}
+use Rattle.mql_expr.specs.Levels.{level_of_op as level}
+use Rattle.mql_parse.specs.Grammar.{Is, MayOpen, ListedNames, GroupIfAny, TruthIfAny, Mods, Offset, OffsetIfAny, ParamsIfAny, postfix, Reads, Primary, Args, Templates}
 use Rattle.mql_parse.specs.Machine.{State, at, Frame, in_parens, in_minus, in_plus, in_operator, in_args, in_template, in_body, Before, opened, wanted, named, grouped, called, regrouped, names_wanted, in_names, in_braces, primary, window_wanted, window_read, windowed, offset_wanted, offset_back, complete, operated, compared, matched, many_read, with_read, template_wanted, template_named, in_params, template_headed, Purpose, before_args, after_args, matched_by, taken_over, Call, Head, Joint, Scope, call_of, head_of}
 use Rattle.mql_parse.proofs.ToRead.{wants, with_args, with_more}
 

@@ -12,7 +12,8 @@ use Rattle.mql_lists.specs.declared.progress.Progress.{Progress}
 use Rattle.mql_lists.specs.declared.progress.Progress.TheVariants.{Goes, Done}
 use Rattle.mql_lists.specs.Progress.{leads, behind_step}
 use Rattle.mql_expr.specs.Tree.{Tree, ranged}
-use Rattle.mql_parse.specs.Grammar.{Is, level, deepest, MayOpen}
+use Rattle.mql_expr.specs.Levels.{level_of_op as level}
+use Rattle.mql_parse.specs.Grammar.{Is, deepest, MayOpen}
 use Rattle.mql_parse.specs.Machine.{State, at, moved, Frame, in_parens, in_minus, in_plus, in_operator, in_args, in_template, in_body, Before, step, by, final_of, standing, opened, opening, only, fits, reduce, operate, close, continue, end, go_on, within_part, primary, complete, windowed, named, called, regrouped, Call, Head, Joint, Scope, calling, metric, by_primary, by_named, by_called, by_regrouped, by_window, joined, wanted, operated, compared, by_wanted, by_compared, joining}
 
 -- the machine reads the text from here to its end, as this expression

@@ -11,6 +11,7 @@ use Rattle.mql_lex.specs.declared.group.MatchKind.TheVariants.{All, On, Ignoring
 use Rattle.mql_lex.specs.declared.group.Matching.{Matching}
 use Rattle.mql_lex.specs.declared.operator.Op.{Op}
 use Rattle.mql_lex.specs.declared.span.Span.{Span}
+use Rattle.mql_expr.specs.Levels.{level_of_op as level}
 use Rattle.mql_lists.specs.declared.class.Class.{Class}
 use Rattle.mql_lists.specs.Words.{Word}
 use Rattle.mql_lists.specs.Classes.{class_of_word}
@@ -25,26 +26,6 @@ abbrev pub Is : Class → Word → Type 0
 Is class w = class_of_word w ≡ class
 
 -- ---- levels and limits
-
--- how tightly an operator binds
-abbrev pub level : Op → ℕ
-level Op.Default = 1
-level Op.If = 2
-level Op.IfNot = 2
-level Op.Or = 3
-level Op.And = 4
-level Op.Unless = 4
-level Op.Equal = 5
-level Op.Differs = 5
-level Op.AtMost = 5
-level Op.AtLeast = 5
-level Op.Below = 5
-level Op.Above = 5
-level Op.Add = 6
-level Op.Sub = 6
-level Op.Mul = 7
-level Op.Div = 7
-level Op.Rem = 7
 
 abbrev pub is_comparison : Op → Bool
 is_comparison Op.Equal = true
@@ -150,7 +131,8 @@ abbrev pub postfix : ℕ
 postfix = 9
 
 mutual
-  -- An expression of a level, where so many levels are open: 0 is any, 1 to 7 are those of the operators.
+  -- An expression of a level, where so many brackets and signs are open: 0 is any, 1 to 7 are those of
+  -- the operators, the loosest first.
   -- `true` says that it ends in the body of a `with`, which reaches as far as it can.
   pub data Reads (len : ℕ) : (opened level : ℕ) → Bool → List Word → List Word → Tree → Type 0 where
     looser : {n l : ℕ} {o : Bool} {text rest : List Word} {t : Tree} → Reads len n (suc l) o text rest t → Reads len n l o text rest t

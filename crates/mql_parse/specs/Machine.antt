@@ -26,7 +26,8 @@ use Rattle.mql_lists.specs.Values.{value_of}
 use Rattle.mql_parse.specs.Values.{number_of, or_zero, length_of, is_short, ahead, back}
 use Rattle.mql_parse.specs.declared.fault.Wrong.{Wrong}
 use Rattle.mql_parse.specs.declared.fault.Wrong.TheVariants.{Unexpected, TooDeep, NumberTooWide}
-use Rattle.mql_parse.specs.Grammar.{level, is_comparison, deepest, matching}
+use Rattle.mql_expr.specs.Levels.{level_of_op as level}
+use Rattle.mql_parse.specs.Grammar.{is_comparison, deepest, matching}
 
 -- a call as far as it was read
 pub record Call : Type 0 where

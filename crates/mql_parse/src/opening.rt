@@ -8,7 +8,7 @@ ghost use Rattle.mql_parse.specs.Views.{the_frame, the_frames};
 
 use crate::stack::{MAX_LEVELS, Stack};
 use crate::state::Open;
-use mql_lists::level_of;
+use mql_expr::level_of_op;
 use std::alloc::{AllocError, Global};
 use vm_base::List;
 
@@ -100,7 +100,7 @@ impl Open {
     {
         match self {
             Open::Negating(_) | Open::Adding => true,
-            Open::Operating(pending, _) => level <= level_of(pending.op),
+            Open::Operating(pending, _) => level <= level_of_op(pending.op),
             Open::Scoped(_) => level == 0,
             Open::Round | Open::Calling(_) | Open::Defining(_, _, _) => false,
         }

@@ -9,8 +9,8 @@ ghost use Rattle.mql_parse.specs.Views.{the_call, the_frame, the_frames, the_hea
 use crate::fault::{StepError, Wrong};
 use crate::stack::Stack;
 use crate::state::{Calling, Heading, Here, Joining, Last, Open, Pending, Scoping, Templating};
-use mql_expr::{Called, Expr, Joint, Param, Template};
-use mql_lists::{Class, level_of};
+use mql_expr::{Called, Expr, Joint, Param, Template, level_of_op};
+use mql_lists::Class;
 use std::alloc::{AllocError, Global};
 use vm_base::List;
 
@@ -90,7 +90,7 @@ pub(crate) fn go_on(
 {
     match here.class {
         Class::Operator(op) => {
-            let left = reduce(alloc, stack, level_of(op), expr)?;
+            let left = reduce(alloc, stack, level_of_op(op), expr)?;
             let at = here.at;
             let truth = false;
             Ok(Last::Joining(Joining::Operator(Pending {

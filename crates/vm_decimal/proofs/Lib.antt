@@ -4,9 +4,11 @@ pub mod DecForms
 pub mod DecReadings
 mod Divisions
 mod Exacts
+mod Levels
 pub mod NumberReadings
 mod NumberTexts
 mod Orders
+pub mod PrintedSamples
 pub mod PrintedTexts
 mod Products
 mod QuickDigits

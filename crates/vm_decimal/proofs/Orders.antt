@@ -1,14 +1,15 @@
 -- The order of numbers by their fields.
-use mathlib.Core.Bool.{beq}
-use Rattle.std.proofs.Common.{◌≡◌, ℕ, zero, suc, ◌-◌, ◌*◌, ◌^◌, ◌<◌, ◌≤◌, ◌==◌, ℤ, pos, neg_ℤ, Bool, true, false, Less, Greater, refl, ap, sym, ◌∙◌, ⊎_elim, arith, pow-add}
+use Rattle.std.proofs.Common.{◌≡◌, ℕ, zero, suc, ◌-◌, ◌*◌, ◌^◌, ◌<◌, ◌≤◌, ◌==◌, ℤ, pos, neg_ℤ, unsigned_abs, Bool, true, false, Less, Greater, refl, ap, sym, ◌∙◌, ⊎_elim, arith, pow-add}
 use Rattle.std.proofs.Math.Nat.{one-le-mul, mul-lt-mul_of_pos_right, mul_assoc}
 use Rattle.std.proofs.lemmas.Bool.{cases_eq, cases_order}
 use Rattle.std.proofs.lemmas.Bool.Decides.{nat_tests, Decides-int_eq}
+use Rattle.std.specs.Int.{is_negative}
 use Rattle.std.specs.Ordering.{nat_cmp, int_eq, int_cmp}
 use Rattle.vm_base.specs.Form.{ten_pos}
-use Rattle.vm_base.specs.Number.{number, form_of}
+use Rattle.vm_base.specs.Number.{signed, number, form_of}
+use Rattle.vm_base.proofs.NumberLaws.{signed-parts}
 use Rattle.vm_decimal.specs.declared.dec.Dec.TheInside.{Inside}
-use Rattle.vm_decimal.proofs.DecForms.{InForm, Is, form_of-dec}
+use Rattle.vm_decimal.proofs.DecForms.{InForm, Is, form_of-inside}
 
 -- a size with noughts after it that passes 128 bits is above each other
 pub above : (size gap other : ℕ) → 2 ^ 128 ≤ size * 10 ^ gap → other < 10 ^ 38
@@ -48,39 +49,28 @@ higher_shift one two high low over =
 
 -- equal numbers have equal fields
 pub unlike : (s o : Inside) (y z : ℤ) → InForm s → InForm o → Is s y → Is o z
-    → (s.negative ≡ o.negative → s.size ≡ o.size → s.shift ≡ o.shift → ⊥) → false ≡ int_eq y z
+    → (s.mantissa ≡ o.mantissa → s.shift ≡ o.shift → ⊥) → false ≡ int_eq y z
 unlike s o y z form other is_y is_z differ =
     let apart : y ≡ z → ⊥ = λ h.
-    let forms =
-    sym (form_of-dec s.negative s.size s.shift form) ∙ ap form_of (is_y ∙ h ∙ sym is_z)
-    ∙ form_of-dec o.negative o.size o.shift other in
-    differ (ap (λ f. f.negative) forms) (ap (λ f. f.size) forms) (ap (λ f. f.shift) forms) in
+    let forms = sym (form_of-inside s y form is_y) ∙ ap form_of h ∙ form_of-inside o z other is_z in
+    let mantissas : s.mantissa ≡ o.mantissa =
+    sym (signed-parts s.mantissa) ∙ ap (λ f. signed f.negative f.size) forms ∙ signed-parts o.mantissa in
+    differ mantissas (ap (λ f. f.shift) forms) in
     grind (arith, Decides-int_eq y z)
 
 pub alike : (s o : Inside) (y z : ℤ) → InForm s → InForm o → Is s y → Is o z
-    → s.negative ≡ o.negative → s.size ≡ o.size → (s.shift == o.shift) ≡ int_eq y z
-alike s o y z form other is_y is_z signs sizes =
+    → s.mantissa ≡ o.mantissa → (s.shift == o.shift) ≡ int_eq y z
+alike s o y z form other is_y is_z mantissas =
     ⊎_elim
     (λ shifts.
-    let parts : number s.negative s.size s.shift ≡ number o.negative o.size o.shift = cc in
+    let parts : number (is_negative s.mantissa) (unsigned_abs s.mantissa) s.shift
+    ≡ number (is_negative o.mantissa) (unsigned_abs o.mantissa) o.shift = cc in
     let same : y ≡ z = sym is_y ∙ parts ∙ is_z in
     grind (arith, nat_tests, Decides-int_eq y z))
     (λ differ.
     let apart : (s.shift == o.shift) ≡ false = grind (arith, nat_tests) in
-    apart ∙ unlike s o y z form other is_y is_z (λ _ _ h. differ h))
+    apart ∙ unlike s o y z form other is_y is_z (λ _ h. differ h))
     (cases_eq s.shift o.shift)
-
-pub same_sign : (a b : Bool) → beq a b ≡ true → a ≡ b
-same_sign true true h = refl
-same_sign false false h = refl
-same_sign true false h = sym h
-same_sign false true h = h
-
-pub other_sign : (a b : Bool) → beq a b ≡ false → a ≡ b → ⊥
-other_sign true true h is = cc
-other_sign false false h is = cc
-other_sign true false h is = cc
-other_sign false true h is = cc
 
 -- a number below zero stands before one that isn't
 opposite : (n m : ℕ) → 0 < n
@@ -88,10 +78,9 @@ opposite : (n m : ℕ) → 0 < n
 opposite zero m some = absurd (omega arith)
 opposite (suc n) m some = (refl, refl)
 
-pub below_zero : (s o : Inside) (y z : ℤ) → InForm s → Is s y → Is o z
-    → s.negative ≡ true → o.negative ≡ false → (Less ≡ int_cmp y z) × (Greater ≡ int_cmp z y)
-below_zero s o y z form is_y is_z minus plus =
-    let some : 0 < s.size =
-    ⊎_elim (λ none. absurd (cc (minus, form.plus none))) (λ h. omega arith) (cases_eq s.size 0) in
-    let whole = one-le-mul {a = s.size} some (ten_pos s.shift) in
-    rw (← is_y, ← is_z, minus, plus) (opposite (s.size * 10 ^ s.shift) (o.size * 10 ^ o.shift) whole)
+pub below_zero : (a b : Bool) (x y i j : ℕ) → (x ≡ 0 → a ≡ false) → a ≡ true → b ≡ false
+    → (Less ≡ int_cmp (number a x i) (number b y j)) × (Greater ≡ int_cmp (number b y j) (number a x i))
+below_zero a b x y i j plus minus plus_too =
+    let some : 0 < x = ⊎_elim (λ none. absurd (cc (minus, plus none))) (λ h. omega arith) (cases_eq x 0) in
+    let whole = one-le-mul {a = x} some (ten_pos i) in
+    rw (minus, plus_too) (opposite (x * 10 ^ i) (y * 10 ^ j) whole)

@@ -33,21 +33,21 @@ are_digits : (ds : List ℕ) → AllDigits 10 ds → IsDigits ds
 are_digits [] all = tt
 are_digits (b ∷ bs) all = (digit_from_value b all.0, are_digits bs all.1)
 
-take_digits : (k : ℕ) (ds : List ℕ) → IsDigits ds → IsDigits (take k ds)
+pub take_digits : (k : ℕ) (ds : List ℕ) → IsDigits ds → IsDigits (take k ds)
 take_digits zero ds all = tt
 take_digits (suc k) [] all = tt
 take_digits (suc k) (b ∷ bs) all = (all.0, take_digits k bs all.1)
 
-drop_digits : (k : ℕ) (ds : List ℕ) → IsDigits ds → IsDigits (drop k ds)
+pub drop_digits : (k : ℕ) (ds : List ℕ) → IsDigits ds → IsDigits (drop k ds)
 drop_digits zero ds all = all
 drop_digits (suc k) [] all = tt
 drop_digits (suc k) (b ∷ bs) all = drop_digits k bs all.1
 
-append_digits : (xs ys : List ℕ) → IsDigits xs → IsDigits ys → IsDigits (xs ++ ys)
+pub append_digits : (xs ys : List ℕ) → IsDigits xs → IsDigits ys → IsDigits (xs ++ ys)
 append_digits [] ys first more = more
 append_digits (x ∷ xs) ys first more = (first.0, append_digits xs ys first.1 more)
 
-noughts_digits : (count : ℕ) → IsDigits (noughts count)
+pub noughts_digits : (count : ℕ) → IsDigits (noughts count)
 noughts_digits zero = tt
 noughts_digits (suc count) = (refl, noughts_digits count)
 
@@ -61,28 +61,30 @@ noughts_value n (suc count) =
     rest ∙ moved ∙ ap (λ m. n * m) (omega (arith, pow-suc 10 count))
 
 -- the digits of a number
-record Decimal (size : ℕ) : Type 0 where
+pub record Decimal (size : ℕ) : Type 0 where
   pub digits : IsDigits (decimal size)
   pub some : 0 < length (decimal size)
   pub value : digits_value 10 (decimal size) ≡ size
 
-decimal_of : (size : ℕ) → size < 10 ^ 38 → Decimal size
+pub decimal_of : (size : ℕ) → size < 10 ^ 38 → Decimal size
 decimal_of size few =
     let is = decimal_is_IsNumeral_wide size (omega arith) in
     record { digits = are_digits (decimal size) is.0.1; some = is.0.0; value = is.1 }
 
 -- a text without a sign that spells a size and a shift
-record Spells (text : List ℕ) (size shift : ℕ) : Type 0 where
+pub record Spells (text : List ℕ) (size shift : ℕ) : Type 0 where
   pub mantissa : List ℕ
   pub exponent : List ℕ
   pub digits : ℕ
   pub places : ℕ
   pub power : ℤ
+  pub behind : ℕ
   pub parts : text ≡ mantissa ++ exponent
   pub a_mantissa : IsMantissa mantissa digits places
   pub an_exponent : IsOptionalExponent exponent power
-  pub same : (minus : Bool)
-      → dec_of (signed minus digits) (power -ℤ pos places) ≡ dec_of (signed minus size) (pos shift -ℤ pos 1000)
+  -- the digits are those of the size and so many noughts, and the exponent counts these
+  pub whole : digits ≡ size * 10 ^ behind
+  pub last : (power -ℤ pos places) +ℤ pos behind ≡ pos shift -ℤ pos 1000
 
 -- noughts behind the digits
 plain_whole : (size shift : ℕ) → size < 10 ^ 38 → 1000 ≤ shift → Spells (plain (decimal size) shift) size shift
@@ -105,6 +107,7 @@ plain_whole size shift few high =
       digits = size * 10 ^ (shift - 1000);
       places = 0;
       power = pos 0;
+      behind = shift - 1000;
       parts = is ∙ sym nil;
       a_mantissa = record {
         whole = text;
@@ -119,8 +122,8 @@ plain_whole size shift few high =
         places_are = refl;
       };
       an_exponent = inl (refl, refl);
-      same = λ minus.
-          dec_of-noughts minus size k (pos 0 -ℤ pos 0) few ∙ ap (dec_of (signed minus size)) last;
+      whole = refl;
+      last = last;
     }
 
 -- the point among the digits
@@ -138,13 +141,14 @@ plain_point size shift few low some =
     rw (no, more) (append_assoc (take w ds) (codes ".") (drop w ds)) in
     let count : length (drop (length (decimal size) + shift - 1000) (decimal size)) ≡ 1000 - shift =
     length-drop w ds ∙ omega arith in
-    let last : pos 0 -ℤ pos (1000 - shift) ≡ pos shift -ℤ pos 1000 = omega (arith, ints) in
+    let last : (pos 0 -ℤ pos (1000 - shift)) +ℤ pos 0 ≡ pos shift -ℤ pos 1000 = omega (arith, ints) in
     record {
       mantissa = take w ds ++ (codes "." ++ drop w ds);
       exponent = [];
       digits = size;
       places = 1000 - shift;
       power = pos 0;
+      behind = 0;
       parts = is ∙ sym (append-nil (take w ds ++ (codes "." ++ drop w ds)));
       a_mantissa = record {
         whole = take w ds;
@@ -159,7 +163,8 @@ plain_point size shift few low some =
         places_are = sym count;
       };
       an_exponent = inl (refl, refl);
-      same = λ minus. ap (dec_of (signed minus size)) last;
+      whole = omega arith;
+      last = last;
     }
 
 -- `0.` and noughts before the digits
@@ -179,13 +184,14 @@ plain_fraction size shift few low none =
     let value : digits_value 10 (codes "0" ++ (noughts z ++ ds)) ≡ size =
     value_append 0 (noughts z) ds
     ∙ ap (λ n. digits_value_after 10 n ds) (noughts_value 0 z ∙ nought) ∙ d.value in
-    let last : pos 0 -ℤ pos (1000 - shift) ≡ pos shift -ℤ pos 1000 = omega (arith, ints) in
+    let last : (pos 0 -ℤ pos (1000 - shift)) +ℤ pos 0 ≡ pos shift -ℤ pos 1000 = omega (arith, ints) in
     record {
       mantissa = codes "0." ++ (noughts z ++ ds);
       exponent = [];
       digits = size;
       places = 1000 - shift;
       power = pos 0;
+      behind = 0;
       parts = is ∙ sym (append-nil (codes "0." ++ (noughts z ++ ds)));
       a_mantissa = record {
         whole = codes "0";
@@ -200,7 +206,8 @@ plain_fraction size shift few low none =
         places_are = sym count;
       };
       an_exponent = inl (refl, refl);
-      same = λ minus. ap (dec_of (signed minus size)) last;
+      whole = omega arith;
+      last = last;
     }
 
 -- a power of ten with its sign
@@ -286,7 +293,7 @@ scientific_is size shift place few near is =
     let ds = decimal size in
     let d = decimal_of size few in
     let some = d.some in
-    let last : (pos place -ℤ pos 1000) -ℤ pos (length (decimal size) - 1) ≡ pos shift -ℤ pos 1000 =
+    let last : ((pos place -ℤ pos 1000) -ℤ pos (length (decimal size) - 1)) +ℤ pos 0 ≡ pos shift -ℤ pos 1000 =
     omega (arith, ints) in
     record {
       mantissa = take 1 ds ++ fraction ds;
@@ -294,14 +301,16 @@ scientific_is size shift place few near is =
       digits = size;
       places = length ds - 1;
       power = pos place -ℤ pos 1000;
+      behind = 0;
       parts = append_assoc (take 1 ds ++ fraction ds) (codes "e") (power place);
       a_mantissa = front_is size few;
       an_exponent = inr (exponent_is place near);
-      same = λ minus. ap (dec_of (signed minus size)) last;
+      whole = omega arith;
+      last = last;
     }
 
 -- a size and a shift as they are written
-size_spells : (size shift : ℕ) → size < 10 ^ 38 → shift ≤ 2000 → length (decimal size) ≤ 38
+pub size_spells : (size shift : ℕ) → size < 10 ^ 38 → shift ≤ 2000 → length (decimal size) ≤ 38
     → Spells (size_text (decimal size) shift) size shift
 size_spells size shift few high short =
     go (nat_le 993 (length (decimal size) + shift - 1) && nat_le (length (decimal size) + shift - 1) 1020) refl
@@ -324,7 +333,7 @@ size_spells size shift few high short =
         rw near (scientific_is size shift (length (decimal size) + shift - 1) few (omega arith) refl)
 
 -- with a sign
-number_of_text : (minus : Bool) (text : List ℕ) (size shift : ℕ) (s : Spells text size shift)
+pub number_of_text : (minus : Bool) (text : List ℕ) (size shift : ℕ) (s : Spells text size shift)
     → IsNumber (sign minus ++ text) (record { negative = minus; digits = s.digits; exponent = s.power -ℤ pos s.places })
 number_of_text minus text size shift s = record {
   sign = sign minus;
@@ -343,7 +352,7 @@ number_of_text minus text size shift s = record {
     signed_text true = refl
     signed_text false = inr refl
 
-nought_text : IsNumber (codes "0") (record { negative = false; digits = 0; exponent = pos 0 -ℤ pos 0 })
+pub nought_text : IsNumber (codes "0") (record { negative = false; digits = 0; exponent = pos 0 -ℤ pos 0 })
 nought_text = record {
   sign = [];
   mantissa = codes "0";
@@ -372,6 +381,13 @@ reads_as : (text : List ℕ) (s : Spelled) (z : ℤ) → IsNumber text s → dec
 unfolding dec_reading
 reads_as text s z is value = ap dec_valued (number_reading-number text s is) ∙ ap or_too_wide value
 
+-- the number that is spelled is that of the size and the shift
+same_number : (minus : Bool) (text : List ℕ) (size shift : ℕ) (s : Spells text size shift) → size < 10 ^ 38
+    → dec_of (signed minus s.digits) (s.power -ℤ pos s.places) ≡ dec_of (signed minus size) (pos shift -ℤ pos 1000)
+same_number minus text size shift s few =
+    ap (λ n. dec_of (signed minus n) (s.power -ℤ pos s.places)) s.whole
+    ∙ dec_of-noughts minus size s.behind (s.power -ℤ pos s.places) few ∙ ap (dec_of (signed minus size)) s.last
+
 -- the text of a number by its parts
 pub parts_read : (minus : Bool) (size shift : ℕ) → IsDecForm minus size shift → length (decimal size) ≤ 38
     → dec_reading (if size == 0 then codes "0" else sign minus ++ size_text (decimal size) shift)
@@ -392,7 +408,8 @@ parts_read minus size shift form short =
     (reads_as (sign minus ++ size_text (decimal size) shift)
     (record { negative = minus; digits = spells.digits; exponent = spells.power -ℤ pos spells.places })
     (number minus size shift) (number_of_text minus (size_text (decimal size) shift) size shift spells)
-    (spells.same minus ∙ dec_of-form minus size shift (pos shift -ℤ pos 1000) form refl)))
+    (same_number minus (size_text (decimal size) shift) size shift spells form.few
+    ∙ dec_of-form minus size shift (pos shift -ℤ pos 1000) form refl)))
     (cases_eq size 0)
 
 -- a number within the limits is in normal form by its parts

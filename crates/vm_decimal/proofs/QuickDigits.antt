@@ -1,20 +1,23 @@
 -- The fast way finds what the grammar says.
 use Rattle.std.specs.Prelude.{◌≡◌, ℕ, suc, ◌+◌, ◌-◌, ◌*◌, ◌^◌, ◌<◌, ◌≤◌, ℤ, pos, ◌+ℤ◌, ◌-ℤ◌, Bool, true, List, [], ◌∷◌, ◌++◌, length, take, drop, Option, Some, None, Ok, IfSome, codes, ◌⊎◌, unsigned_abs}
-use Rattle.std.specs.Char.{is_ascii_digit}
+use Rattle.std.specs.Char.{is_ascii_digit, digit_value}
 use Rattle.std.specs.Str.Parse.{digits_value_after}
-use Rattle.std.proofs.Common.{refl, arith, sym, ap, subst, ◌∙◌, inl, inr, ⊎_elim, append-nil, add-one, drop-cons, take_all, pow-add, length-drop, length-take, take-add, take-take}
+use Rattle.std.proofs.Common.{refl, arith, sym, ap, ap₂, subst, ◌∙◌, inl, inr, ⊎_elim, append-nil, add-one, drop-cons, take_all, pow-add, length-drop, length-take, take-add, take-take}
 use Rattle.std.proofs.Math.ListN.{get_or}
-use Rattle.std.proofs.Math.Nat.{pow-suc, pow-le-pow_right, mul-le-mul_left, mul-le-mul_right}
+use Rattle.std.proofs.Math.Nat.{pow-suc, pow-le-pow_right, mul_assoc, mul-le-mul_left, mul-le-mul_right}
 use Rattle.std.proofs.lemmas.Bool.Decides.{nat_tests}
 use Rattle.std.proofs.lemmas.Int.{ints}
 use Rattle.std.proofs.lemmas.List.{take_more, take_rest, take-append-drop, length-take-le}
 use Rattle.vm_base.specs.Form.{unsigned_abs-signed}
 use Rattle.vm_base.specs.Number.{signed}
 use Rattle.vm_base.specs.Sample.{sample_of}
-use Rattle.vm_decimal.specs.Quick.{BeginsQuick, FewDigits, SignedPower, QuickPower, QuickValue, SpellsQuick, spelling_of}
+use Rattle.vm_decimal.specs.Dec.{dec_of}
+use Rattle.vm_decimal.specs.DecText.{dec_reading}
+use Rattle.vm_decimal.specs.Quick.{BeginsQuick, FewDigits, SignedPower, QuickPower, QuickValue, SpellsQuick}
 use Rattle.vm_decimal.specs.Rounded.{sample_value}
 use Rattle.vm_decimal.specs.SampleText.{number_reading, valued}
 use Rattle.vm_decimal.specs.Spelled.{IsDigits, IsSign}
+use Rattle.vm_decimal.proofs.Exacts.{quick_dec_is}
 use Rattle.vm_decimal.proofs.NumberReadings.{number_reading-number}
 use Rattle.vm_decimal.proofs.Roundings.{surplus-short, nearest-one}
 use Rattle.vm_decimal.specs.declared.quick.QuickNumber.{QuickNumber}
@@ -46,14 +49,30 @@ value_more n text i v here digit is =
 
 -- 19 digits fit 64 bits
 
-pub small_more : (a v digit i : ℕ) → v < a * 10 ^ i → digit < 10 → v * 10 + digit < a * 10 ^ (i + 1)
-small_more a v digit i small is = rw add-one (omega (arith, ap (λ n. a * n) (pow-suc 10 i)))
+pub small_more : (v digit i : ℕ) → v < 10 ^ i → digit < 10 → v * 10 + digit < 10 ^ (i + 1)
+small_more v digit i small is = rw add-one (omega (arith, pow-suc 10 i))
 
-pub room_more : (a v i n : ℕ) → v < a * 10 ^ i → i < n → a * 10 ^ n ≤ 10 ^ 19 → v * 10 + 9 < 10 ^ 19
-room_more a v i n small within room =
-    let more : 10 ^ (i + 1) ≤ 10 ^ n = pow-le-pow_right {n = 10} (omega arith) (omega arith) in
-    let all : a * 10 ^ (i + 1) ≤ a * 10 ^ n = mul-le-mul_left a more in
-    let next : v * 10 + 9 < a * 10 ^ (i + 1) = small_more a v 9 i small (omega arith) in
+pub room_more : (v i n : ℕ) → v < 10 ^ i → i < n → n ≤ 19 → v * 10 + 9 < 10 ^ 19
+room_more v i n small within few =
+    let more : 10 ^ (i + 1) ≤ 10 ^ 19 = pow-le-pow_right {n = 10} (omega arith) {i = i + 1} {j = 19} (omega arith) in
+    let next : v * 10 + 9 < 10 ^ (i + 1) = small_more v 9 i small (omega arith) in
+    omega arith
+
+-- 38 digits fit 128 bits
+
+pub room_less : (a count all : ℕ) → count ≤ all → a * 10 ^ all ≤ 10 ^ 38 → a * 10 ^ count ≤ 10 ^ 38
+room_less a count all less room =
+    let power : 10 ^ count ≤ 10 ^ all = pow-le-pow_right {n = 10} (omega arith) less in
+    let times : a * 10 ^ count ≤ a * 10 ^ all = mul-le-mul_left a power in
+    omega arith
+
+pub room_joined : (a size first more all : ℕ) → size < a * 10 ^ first → first + more ≤ all → a * 10 ^ all ≤ 10 ^ 38
+    → (size + 1) * 10 ^ more ≤ 10 ^ 38
+room_joined a size first more all small less room =
+    let times : (size + 1) * 10 ^ more ≤ a * 10 ^ first * 10 ^ more = mul-le-mul_right (10 ^ more) (omega arith) in
+    let power : a * 10 ^ first * 10 ^ more ≡ a * 10 ^ (first + more) =
+    mul_assoc a (10 ^ first) (10 ^ more) ∙ ap (λ n. a * n) (sym (pow-add 10 first more)) in
+    let within : a * 10 ^ (first + more) ≤ 10 ^ 38 = room_less a (first + more) all less room in
     omega arith
 
 behind : (whole end size count all : ℕ) → whole < 1 * 10 ^ end → size ≤ (whole + 1) * 10 ^ count
@@ -64,16 +83,16 @@ behind whole end size count all small less few =
     let more : 10 ^ (end + count) ≤ 10 ^ all = pow-le-pow_right {n = 10} (omega arith) few in
     omega (arith, pow-add 10 end count)
 
-pub room_behind : (whole end count : ℕ) → whole < 1 * 10 ^ end → end + count ≤ 19
-    → (whole + 1) * 10 ^ count ≤ 10 ^ 19
+pub room_behind : (whole end count : ℕ) → whole < 1 * 10 ^ end → end + count ≤ 38
+    → (whole + 1) * 10 ^ count ≤ 10 ^ 38
 room_behind whole end count small few =
-    behind whole end ((whole + 1) * 10 ^ count) count 19 small (omega arith) few
+    behind whole end ((whole + 1) * 10 ^ count) count 38 small (omega arith) few
 
 few_behind : (whole end size count : ℕ) → whole < 1 * 10 ^ end → size < (whole + 1) * 10 ^ count
-    → end + count ≤ 18 → size < 10 ^ 18
+    → end + count ≤ 38 → size < 10 ^ 38
 few_behind whole end size count small less few =
-    let at_most : size + 1 ≤ 10 ^ 18 =
-    behind whole end (size + 1) count 18 small (omega arith) few in
+    let at_most : size + 1 ≤ 10 ^ 38 =
+    behind whole end (size + 1) count 38 small (omega arith) few in
     omega arith
 
 -- mantissas
@@ -85,16 +104,71 @@ front_take text front m end is within =
     let short : end ≤ m = omega (arith, ap length is, length-take m text) in
     ap (take end) is ∙ take-take end m text short
 
-pub whole_quick : (text front : List ℕ) (m value end : ℕ) → front ≡ take m text → m ≤ 18
+-- digits at the front of a text, behind those of another number
+pub record Behind (before : ℕ) (text : List ℕ) (size count : ℕ) : Type 0 where
+  pub within : count ≤ length text
+  pub digits : IsDigits (take count text)
+  pub value : size ≡ digits_value_after 10 before (take count text)
+  pub small : size < (before + 1) * 10 ^ count
+
+value_from : (n : ℕ) (ds : List ℕ) → digits_value_after 10 n ds ≡ n * 10 ^ length ds + digits_value_after 10 0 ds
+value_from n [] = omega arith
+value_from n (b ∷ ds) =
+    let one = value_from (n * 10 + digit_value b) ds in
+    let none = value_from (0 * 10 + digit_value b) ds in
+    let power : (n * 10 + digit_value b) * 10 ^ length ds ≡ n * 10 ^ suc (length ds) + digit_value b * 10 ^ length ds =
+    omega (arith, ap (λ t. n * t) (pow-suc 10 (length ds))) in
+    omega arith
+
+pub first_digits : (before : ℕ) (text front : List ℕ) (m first count size : ℕ) → front ≡ take m text
+    → count ≤ length front → IsDigits (take count front) → first ≡ digits_value_after 10 0 (take count front)
+    → first < 10 ^ count → size ≡ before * 10 ^ count + first → Behind before text size count
+first_digits before text front m first count size is within digits value small joined =
+    let same : take count front ≡ take count text = front_take text front m count is within in
+    let inside : count ≤ length text = omega (arith, ap length is, length-take m text) in
+    let many : length (take count text) ≡ count = length-take-le count text inside in
+    let from : digits_value_after 10 before (take count text) ≡ before * 10 ^ count + digits_value_after 10 0 (take count text) =
+    value_from before (take count text) ∙ ap (λ n. before * 10 ^ n + digits_value_after 10 0 (take count text)) many in
+    record {
+      within = inside;
+      digits = subst IsDigits same digits;
+      value = joined ∙ ap (λ n. before * 10 ^ count + n) (value ∙ ap (digits_value_after 10 0) same) ∙ sym from;
+      small = omega arith;
+    }
+
+pub more_digits : (before : ℕ) (text rest : List ℕ) (first size more all : ℕ) → Behind before text size first
+    → rest ≡ take (length text - first) (drop first text) → Behind size rest all more
+    → Behind before text all (first + more)
+more_digits before text rest first size more all b rest_is r =
+    let far : rest ≡ drop first text = rest_is ∙ take_rest text first in
+    let next : Behind size (drop first text) all more = subst (λ t. Behind size t all more) far r in
+    let split : take (first + more) text ≡ take first text ++ take more (drop first text) = take-add first more text in
+    let in_text = b.within in
+    let in_rest = next.within in
+    let least = b.small in
+    let less = next.small in
+    let times : (size + 1) * 10 ^ more ≤ (before + 1) * 10 ^ first * 10 ^ more =
+    mul-le-mul_right (10 ^ more) (omega arith) in
+    let power : (before + 1) * 10 ^ first * 10 ^ more ≡ (before + 1) * 10 ^ (first + more) =
+    mul_assoc (before + 1) (10 ^ first) (10 ^ more) ∙ ap (λ n. (before + 1) * n) (sym (pow-add 10 first more)) in
+    record {
+      within = omega (arith, length-drop first text);
+      digits = subst IsDigits (sym split) (digits-append (take first text) (take more (drop first text)) b.digits next.digits);
+      value = next.value ∙ ap (λ n. digits_value_after 10 n (take more (drop first text))) b.value
+          ∙ sym (ap (digits_value_after 10 before) split ∙ value_append before (take first text) (take more (drop first text)));
+      small = omega arith;
+    }
+
+pub whole_quick : (text front : List ℕ) (m value end : ℕ) → front ≡ take m text → m ≤ 38
     → end ≤ length front → 1 ≤ end → IsDigits (take end front)
     → value ≡ digits_value_after 10 0 (take end front) → value < 1 * 10 ^ end
     → BeginsQuick text value 0 end
 whole_quick text front m value end is few within some digits value_is small =
     let same : take end front ≡ take end text = front_take text front m end is within in
     let inside : end ≤ length text = omega (arith, ap length is, length-take m text) in
-    let short : end ≤ 18 = omega (arith, ap length is, length-take m text) in
+    let short : end ≤ 38 = omega (arith, ap length is, length-take m text) in
     let count : length (take end text) ≡ end = length-take-le end text inside in
-    let power : 10 ^ end ≤ 10 ^ 18 = pow-le-pow_right {n = 10} (omega arith) short in
+    let power : 10 ^ end ≤ 10 ^ 38 = pow-le-pow_right {n = 10} (omega arith) short in
     record {
       within = inside;
       is = record {
@@ -116,9 +190,9 @@ whole_quick text front m value end is few within some digits value_is small =
     }
 
 pub pointed_quick : (text front rest : List ℕ) (m k whole end size places : ℕ) → front ≡ take m text
-    → m ≤ 18 → end ≤ length front → end < length text → get_or text end 0 ≡ 46
+    → m ≤ 38 → end ≤ length front → end < length text → get_or text end 0 ≡ 46
     → IsDigits (take end front) → whole ≡ digits_value_after 10 0 (take end front) → whole < 1 * 10 ^ end
-    → rest ≡ take k (take (length text - (end + 1)) (drop (end + 1) text)) → k ≤ 18 - end
+    → rest ≡ take k (take (length text - (end + 1)) (drop (end + 1) text)) → k ≤ 38 - end
     → places ≤ length rest → IsDigits (take places rest)
     → size ≡ digits_value_after 10 whole (take places rest) → size < (whole + 1) * 10 ^ places
     → 1 ≤ end + places → BeginsQuick text size places (end + 1 + places)
@@ -129,7 +203,7 @@ pointed_quick text front rest m k whole end size places is few within here point
     let rest_same : rest ≡ take k (drop (suc end) text) = rest_is ∙ ap (take k) behind_point in
     let fraction : take places rest ≡ take places (drop (suc end) text) =
     front_take (drop (suc end) text) rest k places rest_same all in
-    let short : end ≤ 18 = omega (arith, ap length is, length-take m text) in
+    let short : end ≤ 38 = omega (arith, ap length is, length-take m text) in
     let left : places ≤ k = omega (arith, ap length rest_same, length-take k (drop (suc end) text)) in
     let far : places ≤ length (drop (suc end) text) = omega (arith, ap length rest_same, length-take k (drop (suc end) text)) in
     let count : length (take end text) ≡ end = length-take-le end text (omega arith) in
@@ -166,7 +240,7 @@ pointed_quick text front rest m k whole end size places is few within here point
 
 pub all_digits : (text : List ℕ) (size count : ℕ) → 0 < length text → length text ≤ 4
     → count ≤ length text → length text ≤ count → IsDigits (take count text)
-    → size ≡ digits_value_after 10 0 (take count text) → size < 1 * 10 ^ count → FewDigits text size
+    → size ≡ digits_value_after 10 0 (take count text) → size < 10 ^ count → FewDigits text size
 all_digits text size count some few within all digits size_is small =
     let same : take count text ≡ text = take_all count text all in
     let power : 10 ^ count ≤ 10 ^ 4 = pow-le-pow_right {n = 10} (omega arith) {i = count} {j = 4} (omega arith) in
@@ -215,28 +289,34 @@ marked_some text rest b None parts letter is = tt
 marked_some text rest b (Some power) parts letter is = marked_power text rest b power parts letter is
 
 -- the number of what was found
-pub quick_found : (negative : Bool) (text rest : List ℕ) (n : QuickNumber) (places len : ℕ) (power : ℤ)
-    → n.negative ≡ negative → BeginsQuick text n.size places len
-    → rest ≡ take (length text - len) (drop len text) → QuickPower rest power
-    → n.exponent ≡ power -ℤ pos places → QuickValue negative text n
-quick_found negative text rest n places len power sign front rest_is p is = record {
+pub quick_found : (negative : Bool) (text rest : List ℕ) (n : QuickNumber) (size places len : ℕ) (power : ℤ)
+    → BeginsQuick text size places len → rest ≡ take (length text - len) (drop len text) → QuickPower rest power
+    → n.mantissa ≡ signed negative size → n.exponent ≡ power -ℤ pos places → QuickValue negative text n
+quick_found negative text rest n size places len power front rest_is p mantissa_is exponent_is = record {
+  size = size;
   places = places;
   len = len;
   power = power;
   rest = rest;
-  sign = sign;
   parts = sym (take-append-drop len text) ∙ ap (λ t. take len text ++ t) (sym (rest_is ∙ take_rest text len));
   mantissa = front.is;
   exponent = p.is;
-  is = is;
+  near = p.few;
+  mantissa_is = mantissa_is;
+  exponent_is = exponent_is;
 }
 
 -- with its sign
+near_exponent : (e power : ℤ) (places : ℕ) → e ≡ power -ℤ pos places → unsigned_abs power < 10 ^ 4 → places ≤ 38
+    → unsigned_abs e < 2 ^ 15
+near_exponent e power places is few near = omega (arith, ints)
+
 pub quick_spells : (negative : Bool) (whole sign text : List ℕ) (n : QuickNumber) → whole ≡ sign ++ text
     → IsSign negative sign → QuickValue negative text n → SpellsQuick whole n
 quick_spells negative whole sign text n parts a_sign q =
     let quick = q.mantissa in
     record {
+      spelled = record { negative = negative; digits = q.size; exponent = n.exponent };
       is = record {
         sign = sign;
         mantissa = take q.len text;
@@ -244,12 +324,14 @@ quick_spells negative whole sign text n parts a_sign q =
         places = q.places;
         power = q.power;
         parts = parts ∙ ap (λ t. sign ++ t) q.parts;
-        a_sign = subst (λ s. IsSign s sign) (sym q.sign) a_sign;
+        a_sign = a_sign;
         a_mantissa = quick.mantissa;
         an_exponent = q.exponent;
-        exponent_is = q.is;
+        exponent_is = q.exponent_is;
       };
-      few = quick.few;
+      mantissa_is = q.mantissa_is;
+      exponent_is = refl;
+      near = near_exponent n.exponent q.power q.places q.exponent_is q.near quick.near;
     }
 
 pub quick_some : (negative : Bool) (whole sign text : List ℕ) (found : Option QuickNumber) → whole ≡ sign ++ text
@@ -259,15 +341,24 @@ quick_some negative whole sign text (Some n) parts a_sign is =
     quick_spells negative whole sign text n parts a_sign is
 
 -- the sample of a number of few digits
-pub quick_sample : (text : List ℕ) (n : QuickNumber) (found : Option ℤ) → SpellsQuick text n
-    → found ≡ sample_of (signed n.negative n.size) n.exponent
+pub quick_sample : (text : List ℕ) (n : QuickNumber) (m : ℤ) (found : Option ℤ) → SpellsQuick text n
+    → m ≡ n.mantissa → unsigned_abs m < 10 ^ 18 → found ≡ sample_of m n.exponent
     → IfSome found (λ z. valued (number_reading text) ≡ Ok (Some z))
-quick_sample text n None spells is = tt
-quick_sample text n (Some z) spells is =
-    let few = spells.few in
-    let none = surplus-short n.size few in
-    let last : n.exponent +ℤ pos 0 ≡ n.exponent = omega (arith, ints) in
-    let value : sample_value (spelling_of n) ≡ Some z =
-    rw (none, nearest-one n.size, last)
-    (sample_of_digits-sample_of n.negative n.size n.exponent (omega arith) ∙ sym is) in
-    ap valued (number_reading-number text (spelling_of n) spells.is) ∙ ap Ok value
+quick_sample text n m None spells same few is = tt
+quick_sample text n m (Some z) spells same few is =
+    let s = spells.spelled in
+    let mantissa : m ≡ signed s.negative s.digits = same ∙ spells.mantissa_is in
+    let digits : unsigned_abs m ≡ s.digits = ap unsigned_abs mantissa ∙ unsigned_abs-signed s.negative s.digits in
+    let none = surplus-short s.digits (omega arith) in
+    let last : s.exponent +ℤ pos 0 ≡ s.exponent = omega (arith, ints) in
+    let value : sample_value s ≡ Some z =
+    rw (none, nearest-one s.digits, last)
+    (sample_of_digits-sample_of s.negative s.digits s.exponent (omega arith)
+    ∙ sym (is ∙ ap₂ sample_of mantissa spells.exponent_is)) in
+    ap valued (number_reading-number text s spells.is) ∙ ap Ok value
+
+-- the number of few digits
+pub quick_dec : (text : List ℕ) (n : QuickNumber) (found : Option ℤ) → SpellsQuick text n
+    → found ≡ dec_of n.mantissa n.exponent → IfSome found (λ z. dec_reading text ≡ Ok z)
+quick_dec text n found spells is =
+    quick_dec_is text spells.spelled found spells.is (is ∙ ap₂ dec_of spells.mantissa_is spells.exponent_is)

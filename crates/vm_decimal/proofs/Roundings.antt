@@ -17,14 +17,14 @@ power_next k = omega (arith, pow-suc 10 k)
 
 -- how many digits stand behind the first 18
 
-surplus-few : (more n : ℕ) → n < 10 ^ 18 → surplus_within more n ≡ 0
+pub surplus-few : (more n : ℕ) → n < 10 ^ 18 → surplus_within more n ≡ 0
 unfolding surplus_within
 surplus-few zero n few = refl
 surplus-few (suc more) n few =
     let yes : nat_lt n (10 ^ 18) ≡ true = grind (arith, nat_tests) in
     rw yes refl
 
-surplus-many : (more n : ℕ) → 10 ^ 18 ≤ n
+pub surplus-many : (more n : ℕ) → 10 ^ 18 ≤ n
     → surplus_within (suc more) n ≡ surplus_within more (n / 10) + 1
 unfolding surplus_within
 surplus-many more n many =

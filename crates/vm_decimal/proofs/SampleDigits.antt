@@ -22,7 +22,7 @@ abbrev pub spelling : Bool → ℕ → ℤ → Spelled
 spelling negative size e = record { negative = negative; digits = size; exponent = e }
 
 -- a size without the noughts at its end
-record Bare (size : ℕ) : Type 0 where
+pub record Bare (size : ℕ) : Type 0 where
   pub digits : ℕ
   pub noughts : ℕ
   pub is : stripped 18 size ≡ (digits, noughts)
@@ -31,7 +31,7 @@ record Bare (size : ℕ) : Type 0 where
   pub few : digits < 10 ^ 18
   pub short : noughts ≤ 18
 
-bare_of : (size : ℕ) → 0 < size → size ≤ 10 ^ 18 → Bare size
+pub bare_of : (size : ℕ) → 0 < size → size ≤ 10 ^ 18 → Bare size
 bare_of size some few =
     ⊎_elim
     (λ (less : size < 10 ^ 18).

@@ -1,7 +1,8 @@
 -- Sizes with noughts after them.
-use Rattle.std.proofs.Common.{◌≡◌, ℕ, suc, ◌+◌, ◌*◌, ◌/◌, ◌%◌, ◌^◌, ◌<◌, ◌≤◌, ap, sym, ◌∙◌, ⊎_elim, arith, add-one}
+use Rattle.std.proofs.Common.{◌≡◌, ℕ, zero, suc, Bool, true, List, [], ◌∷◌, length, get_or, ◌==◌, ◌&&◌, ◌+◌, ◌*◌, ◌/◌, ◌%◌, ◌^◌, ◌<◌, ◌≤◌, refl, ap, sym, ◌∙◌, ⊎_elim, arith, add-one}
 use Rattle.std.proofs.Math.Nat.{pow-suc, pow-le-pow_right, mul-le-mul_right, mul_comm, mul_assoc}
-use Rattle.std.proofs.lemmas.Bool.{cases_lt}
+use Rattle.std.proofs.lemmas.Bool.{cases_lt, and_parts}
+use Rattle.std.proofs.lemmas.Bool.Decides.{nat_tests}
 use Rattle.vm_base.specs.Form.{tens}
 
 -- one nought goes from the size to the noughts
@@ -50,3 +51,29 @@ few_twos whole size twos is some fits =
     mul-le-mul_right {m = 1} {n = size} (2 ^ twos) (omega arith) in
     absurd (omega arith))
     (cases_lt twos 128)
+
+-- a list of which each number is ten times the one before
+abbrev rise_by_ten : ℕ → List ℕ → Bool
+rise_by_ten n [] = true
+rise_by_ten n (x ∷ xs) = (x == n) && rise_by_ten (n * 10) xs
+
+same_number : (x n : ℕ) → (x == n) ≡ true → x ≡ n
+same_number x n is = grind (arith, nat_tests)
+
+power_at : (n k : ℕ) (xs : List ℕ) → rise_by_ten n xs ≡ true → k < length xs → get_or xs k 0 ≡ n * 10 ^ k
+power_at n k [] is here = absurd (omega arith)
+power_at n zero (x ∷ xs) is here =
+    let same = same_number x n (and_parts (x == n) (rise_by_ten (n * 10) xs) is).0 in
+    omega arith
+power_at n (suc k) (x ∷ xs) is here =
+    let rest = power_at (n * 10) k xs (and_parts (x == n) (rise_by_ten (n * 10) xs) is).1 (omega arith) in
+    rest ∙ omega (arith, ap (λ p. n * p) (pow-suc 10 k))
+
+abbrev powers : List ℕ
+powers =
+    1 ∷ 10 ∷ 100 ∷ 1000 ∷ 10000 ∷ 100000 ∷ 1000000 ∷ 10000000 ∷ 100000000 ∷ 1000000000 ∷ 10000000000 ∷
+    100000000000 ∷ 1000000000000 ∷ 10000000000000 ∷ 100000000000000 ∷ 1000000000000000 ∷
+    10000000000000000 ∷ 100000000000000000 ∷ 1000000000000000000 ∷ 10000000000000000000 ∷ []
+
+pub first_powers : (k : ℕ) → k ≤ 19 → get_or powers k 0 ≡ 10 ^ k
+first_powers k within = power_at 1 k powers refl (omega arith) ∙ omega arith

@@ -1,6 +1,7 @@
 -- Numbers by a sign, a size and a shift. Only inner contracts cite them.
-use Rattle.std.specs.Prelude.{◌≡◌, ℕ, ◌*◌, ◌%◌, ◌^◌, ◌<◌, ◌≤◌, ◌&&◌, nat_lt, int_le, ℤ, pos, unsigned_abs, Bool, Option, Some, None, if◌then◌else◌}
+use Rattle.std.specs.Prelude.{◌≡◌, ℕ, ◌*◌, ◌%◌, ◌^◌, ◌<◌, ◌≤◌, ◌&&◌, nat_lt, int_le, ℤ, pos, ◌*ℤ◌, unsigned_abs, Bool, Option, Some, None, if◌then◌else◌}
 use Rattle.vm_base.specs.Number.{number}
+use Rattle.vm_decimal.specs.declared.level.Leveled.{Leveled}
 use Rattle.vm_decimal.specs.declared.parts.Parts.{Parts}
 use Rattle.vm_decimal.specs.declared.parts.Scaled.{Scaled}
 
@@ -23,3 +24,11 @@ pub record IsBare (size shift : ℕ) : Type 0 where
   pub few : size < 10 ^ 38
   pub high : shift ≤ 2000
   pub short : size % 10 ≡ 0 → size ≡ 0
+
+-- two numbers as multiples of one power of ten
+pub record IsLeveled (one two : ℤ) (both : Leveled) : Type 0 where
+  pub one_is : both.one *ℤ pos (10 ^ both.shift) ≡ one
+  pub two_is : both.two *ℤ pos (10 ^ both.shift) ≡ two
+  pub few : unsigned_abs both.one < 10 ^ 37
+  pub few_too : unsigned_abs both.two < 10 ^ 37
+  pub high : both.shift ≤ 2000

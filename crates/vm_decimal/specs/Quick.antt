@@ -5,16 +5,22 @@ use Rattle.vm_base.specs.Number.{signed}
 use Rattle.vm_decimal.specs.Spelled.{Spelled, IsDigits, IsSign, IsMantissa, IsOptionalExponent, IsNumber}
 use Rattle.vm_decimal.specs.declared.quick.QuickNumber.{QuickNumber}
 
--- a mantissa of at most 18 digits
+-- a mantissa of at most 38 digits
 pub record IsQuick (text : List ℕ) (size places : ℕ) : Type 0 where
   pub mantissa : IsMantissa text size places
-  pub few : size < 10 ^ 18
-  pub near : places ≤ 18
+  pub few : size < 10 ^ 38
+  pub near : places ≤ 38
 
 -- the same at the front of a text
 pub record BeginsQuick (text : List ℕ) (size places len : ℕ) : Type 0 where
   pub within : len ≤ length text
   pub is : IsQuick (take len text) size places
+
+-- a text with a sign in front of a rest
+pub record IsSignedBy (text : List ℕ) (negative : Bool) (rest : List ℕ) : Type 0 where
+  pub sign : List ℕ
+  pub parts : text ≡ sign ++ rest
+  pub a_sign : IsSign negative sign
 
 -- 1 to 4 digits
 pub record FewDigits (text : List ℕ) (size : ℕ) : Type 0 where
@@ -41,20 +47,22 @@ pub record QuickPower (text : List ℕ) (power : ℤ) : Type 0 where
 
 -- a number of these
 pub record QuickValue (negative : Bool) (text : List ℕ) (n : QuickNumber) : Type 0 where
+  pub size : ℕ
   pub places : ℕ
   pub len : ℕ
   pub power : ℤ
   pub rest : List ℕ
-  pub sign : n.negative ≡ negative
   pub parts : text ≡ take len text ++ rest
-  pub mantissa : IsQuick (take len text) n.size places
+  pub mantissa : IsQuick (take len text) size places
   pub exponent : IsOptionalExponent rest power
-  pub is : n.exponent ≡ power -ℤ pos places
+  pub near : unsigned_abs power < 10 ^ 4
+  pub mantissa_is : n.mantissa ≡ signed negative size
+  pub exponent_is : n.exponent ≡ power -ℤ pos places
 
--- as a text spells it
-abbrev pub spelling_of : QuickNumber → Spelled
-spelling_of n = record { negative = n.negative; digits = n.size; exponent = n.exponent }
-
+-- the text spells this number
 pub record SpellsQuick (text : List ℕ) (n : QuickNumber) : Type 0 where
-  pub is : IsNumber text (spelling_of n)
-  pub few : n.size < 10 ^ 18
+  pub spelled : Spelled
+  pub is : IsNumber text spelled
+  pub mantissa_is : n.mantissa ≡ signed spelled.negative spelled.digits
+  pub exponent_is : n.exponent ≡ spelled.exponent
+  pub near : unsigned_abs n.exponent < 2 ^ 15

@@ -1,4 +1,5 @@
 ghost use Rattle.std.specs.Prelude.{◌≡◌, ◌%◌, ◌<◌, ◌≤◌, ◌^◌, Some, pos, negsuc, ◌+ℤ◌, ◌-ℤ◌, ◌≤ℤ◌, ◌++◌, unsigned_abs, IsTrue, OnOk, OnErr};
+ghost use Rattle.std.specs.Result.{result_ok};
 ghost use Rattle.vm_base.specs.Number.{signed, number};
 ghost use Rattle.vm_base.specs.Sample.{mantissa as mantissa_of, exponent};
 ghost use Rattle.vm_decimal.specs.Dec.{IsDecForm, is_dec, dec_of, in_range, as_sample};
@@ -35,36 +36,37 @@ pub struct Range;
 /// each number has one form.
 #[derive(Clone, Copy, Debug)]
 pub struct Dec {
-    /// The digits as a number.
-    pub(crate) size: u128,
-    /// 1000 above the exponent of ten of the last digit.
-    pub(crate) shift: u16,
-    pub(crate) negative: bool,
+    /// The digits as a number, with the sign.
+    pub(crate) mantissa: i128,
+    /// 1000 above the exponent of ten of the last digit. In 64 bits, so that the fields leave a hole of 8 bytes:
+    /// to copy one of 13 bytes takes longer than a sum.
+    pub(crate) shift: u64,
 }
 
 impl Model for Dec {
-    ghost use Rattle.std.specs.Prelude.{ℤ};
-    ghost use Rattle.vm_base.specs.Number.{number, form_of};
+    ghost use Rattle.std.specs.Prelude.{ℤ, unsigned_abs};
+    ghost use Rattle.std.specs.Int.{is_negative};
+    ghost use Rattle.vm_base.specs.Number.{signed, number, form_of};
     ghost use Rattle.vm_base.specs.Form.{form_of-number};
+    ghost use Rattle.vm_base.proofs.NumberLaws.{signed-parts};
     ghost use Rattle.vm_decimal.specs.Dec.{IsDecForm};
 
     ghost Value = { ℤ };
 
-    ghost view = { λ d. number d.negative d.size d.shift };
+    ghost view = { λ d. number (is_negative d.mantissa) (unsigned_abs d.mantissa) d.shift };
 
-    ghost invariant = { λ d. IsDecForm d.negative d.size d.shift };
+    ghost invariant = { λ d. IsDecForm (is_negative d.mantissa) (unsigned_abs d.mantissa) d.shift };
 
-    ghost inverse = { λ z. record { size = (form_of z).size; shift = (form_of z).shift; negative = (form_of z).negative } };
+    ghost inverse = { λ z. record { mantissa = signed (form_of z).negative (form_of z).size; shift = (form_of z).shift } };
 
-    ghost inverse_ok = { λ d h. Prim.rw (form_of-number d.negative d.size d.shift h.short h.plus h.here h.high) };
+    ghost inverse_ok = { λ d h. Prim.rw (form_of-number (is_negative d.mantissa) (unsigned_abs d.mantissa) d.shift h.short h.plus h.here h.high, signed-parts d.mantissa) };
 }
 
 impl Dec {
     /// 0.
     pub const ZERO: Dec = Dec {
-        size: 0,
+        mantissa: 0,
         shift: 1000,
-        negative: false,
     };
 
     /// `m * 10^e`, none exactly where that number has more than 38 digits or an exponent outside -1000
@@ -86,7 +88,7 @@ impl Dec {
         ensures whole { dec_of result.0 result.1 ≡ Some self }
         ensures dec { IsTrue (is_dec self) }
     {
-        (with_sign(self.negative, self.size), exponent_of(self.shift))
+        (self.mantissa, exponent_of(self.shift as u16))
     }
 
     /// The sign, the size and the shift.
@@ -97,9 +99,9 @@ impl Dec {
         ensures bare { IsBare result.size result.shift }
     {
         Parts {
-            negative: self.negative,
-            size: self.size,
-            shift: self.shift,
+            negative: self.mantissa < 0,
+            size: self.mantissa.unsigned_abs(),
+            shift: self.shift as u16,
         }
     }
 
@@ -107,11 +109,9 @@ impl Dec {
     pub fn of_sample(sample: Sample) -> Dec
         ensures { result ≡ sample }
     {
-        let m = sample.m();
         Dec {
-            size: m.unsigned_abs() as u128,
+            mantissa: i128::from(sample.m()),
             shift: shift_of(sample.e()),
-            negative: m < 0,
         }
     }
 
@@ -120,10 +120,11 @@ impl Dec {
     pub fn to_sample(self) -> Option<Sample>
         ensures { result ≡ as_sample self }
     {
-        if self.size >= SAMPLE_SIZES {
+        let parts = self.in_parts();
+        if parts.size >= SAMPLE_SIZES {
             return None;
         }
-        sample_at(self.negative, self.size as u64, self.shift)
+        sample_at(parts.negative, parts.size as u64, parts.shift)
     }
 
     /// Appends the number's text to `out`, which stays as it was where memory runs out.
@@ -134,7 +135,19 @@ impl Dec {
         ensures ok { OnOk result (out.new.items ≡ out.old.items ++ number_text self) }
         ensures err { OnErr result (out.new.items ≡ out.old.items) }
     {
-        out.extend_from_slice(number_text(self.negative, self.size, self.shift).as_slice())
+        let parts = self.in_parts();
+        out.extend_from_slice(number_text(parts.negative, parts.size, parts.shift).as_slice())
+    }
+}
+
+/// The number, or that it is out of range.
+#[inline]
+pub(crate) fn or_range(found: Option<Dec>) -> Result<Dec, Range>
+    ensures { result_ok result ≡ found }
+{
+    match found {
+        Some(found) => Ok(found),
+        None => Err(Range),
     }
 }
 
@@ -165,11 +178,19 @@ pub(crate) fn in_form(negative: bool, size: u128, shift: i32) -> Option<Dec>
     if size >= SIZES || shift < 0 || shift > GREATEST {
         return None;
     }
-    Some(Dec {
-        size,
-        shift: shift as u16,
-        negative,
-    })
+    Some(of_parts(negative, size, shift as u16))
+}
+
+/// The number of these parts, which are in normal form.
+#[inline]
+pub(crate) fn of_parts(negative: bool, size: u128, shift: u16) -> Dec
+    requires { IsDecForm negative size shift }
+    ensures { result ≡ number negative size shift }
+{
+    Dec {
+        mantissa: with_sign(negative, size),
+        shift: u64::from(shift),
+    }
 }
 
 /// The shift behind so many noughts.
@@ -181,15 +202,16 @@ fn shift_behind(shift: i32, noughts: u16) -> i32
 }
 
 /// The shift of a number whose last digit counts `10^e`.
-fn shift_of(e: i16) -> u16
+fn shift_of(e: i16) -> u64
     requires low { negsuc 349 ≤ℤ e }
     requires high { e ≤ℤ pos 350 }
     ensures { pos result ≡ e +ℤ pos 1000 }
 {
-    (e + 1000) as u16
+    (e + 1000) as u64
 }
 
-fn with_sign(negative: bool, size: u128) -> i128
+#[inline]
+pub(crate) fn with_sign(negative: bool, size: u128) -> i128
     requires { size < 10 ^ 38 }
     ensures { result ≡ signed negative size }
 {

@@ -1,5 +1,5 @@
 //! What the text of a number says.
-ghost use Rattle.std.specs.Prelude.{◌≡◌, ◌↔◌, ℕ, ℤ, ◌+◌, ◌<◌, ◌^◌, pos, ◌+ℤ◌, ◌-ℤ◌, Ok, Err, IfSome, IsTrue};
+ghost use Rattle.std.specs.Prelude.{◌≡◌, ◌↔◌, ℕ, ℤ, ◌+◌, ◌<◌, ◌^◌, pos, ◌+ℤ◌, ◌-ℤ◌, unsigned_abs, Ok, Err, IfSome, IsTrue};
 ghost use Rattle.vm_decimal.specs.Exact.{IsCounted};
 ghost use Rattle.vm_base.specs.FirstWrong.{FirstWrong};
 ghost use Rattle.vm_base.specs.Number.{signed};
@@ -58,7 +58,7 @@ fn found(number: Option<Dec>) -> Result<Dec, NumFault>
     }
 }
 
-/// The number of a text of at most 18 digits. Of other texts it gives none.
+/// The number of a text of at most 38 digits. Of other texts it gives none.
 #[inline]
 fn quick_dec(text: &[u8]) -> Option<Dec>
     ensures { IfSome result (λ z. dec_reading text.now ≡ Ok z) }
@@ -69,10 +69,11 @@ fn quick_dec(text: &[u8]) -> Option<Dec>
 
 #[inline]
 fn dec_of_quick(number: QuickNumber) -> Option<Dec>
-    ensures { result ≡ dec_of (signed number.negative number.size) number.exponent }
+    requires { unsigned_abs number.exponent < 2 ^ 15 }
+    ensures { result ≡ dec_of number.mantissa number.exponent }
 {
-    let size = u128::from(number.size);
-    placed(number.negative, size, i32::from(number.exponent) + 1000)
+    let size = number.mantissa.unsigned_abs();
+    placed(number.mantissa < 0, size, number.exponent as i32 + 1000)
 }
 
 /// The number that was read, none where it is out of range.

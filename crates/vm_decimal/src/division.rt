@@ -8,7 +8,7 @@ ghost use Rattle.vm_decimal.specs.Dec.{IsDecForm, in_range, dec_of};
 ghost use Rattle.vm_decimal.specs.Division.{IsAligned};
 ghost use Rattle.vm_decimal.specs.Parts.{value, whole};
 
-use crate::dec::{Dec, Range, SIZES, placed, placed_up};
+use crate::dec::{Dec, Range, SIZES, or_range, placed, placed_up};
 use crate::parts::{Parts, Scaled, differ, raised};
 
 /// How many noughts a dividend has behind it for a quotient in whole billionths.
@@ -70,15 +70,6 @@ impl Dec {
         ensures { result_ok result ≡ nearest_multiple self unit }
     {
         or_range(multiple(self.in_parts(), unit.in_parts()))
-    }
-}
-
-fn or_range(found: Option<Dec>) -> Result<Dec, Range>
-    ensures { result_ok result ≡ found }
-{
-    match found {
-        Some(found) => Ok(found),
-        None => Err(Range),
     }
 }
 

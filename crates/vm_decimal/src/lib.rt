@@ -23,6 +23,7 @@ mod dec_text;
 mod division;
 mod exact;
 mod leading;
+mod level;
 mod number_machine;
 mod number_text;
 mod order;

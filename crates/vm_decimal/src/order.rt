@@ -1,10 +1,12 @@
 //! The order of numbers.
 ghost use Rattle.std.specs.Prelude.{◌≡◌, ◌*◌, ◌^◌, ◌<◌, ◌≤◌, IfSome, IfNone};
-ghost use Rattle.std.specs.Ordering.{nat_cmp};
-ghost use Rattle.vm_decimal.specs.Parts.{whole};
+ghost use Rattle.std.specs.Ordering.{nat_cmp, int_cmp};
+ghost use Rattle.vm_decimal.specs.Dec.{IsDecForm};
+ghost use Rattle.vm_decimal.specs.Parts.{whole, value};
 
 use crate::dec::Dec;
-use crate::parts::{Scaled, raised};
+use crate::level::at_one_level;
+use crate::parts::{Parts, Scaled, raised};
 use std::cmp::Ordering;
 
 impl PartialEq for Dec {
@@ -17,7 +19,7 @@ impl PartialEq for Dec {
     ghost laws = { Prim.search (comparing, rules) };
 
     fn eq(&self, other: &Dec) -> bool {
-        self.negative == other.negative && self.size == other.size && self.shift == other.shift
+        self.mantissa == other.mantissa && self.shift == other.shift
     }
 }
 
@@ -41,19 +43,9 @@ impl Ord for Dec {
     ghost matches_eq = { Prim.search (comparing, rules) };
 
     fn cmp(&self, other: &Dec) -> Ordering {
-        let mine = Scaled {
-            size: self.size,
-            shift: self.shift,
-        };
-        let its = Scaled {
-            size: other.size,
-            shift: other.shift,
-        };
-        match (self.negative, other.negative) {
-            (false, false) => compare(mine, its),
-            (false, true) => Ordering::Greater,
-            (true, false) => Ordering::Less,
-            (true, true) => compare(its, mine),
+        match at_one_level(*self, *other) {
+            Some(both) => both.one.cmp(&both.two),
+            None => compare_parts(self.in_parts(), other.in_parts()),
         }
     }
 }
@@ -68,6 +60,32 @@ impl PartialOrd for Dec {
 
     fn partial_cmp(&self, other: &Dec) -> Option<Ordering> {
         Some(self.cmp(other))
+    }
+}
+
+/// The order of two numbers in normal form.
+fn compare_parts(one: Parts, two: Parts) -> Ordering
+    requires one { IsDecForm one.negative one.size one.shift }
+    requires two { IsDecForm two.negative two.size two.shift }
+    ensures { result ≡ int_cmp (value one) (value two) }
+{
+    let first = scaled(one);
+    let second = scaled(two);
+    match (one.negative, two.negative) {
+        (false, false) => compare(first, second),
+        (false, true) => Ordering::Greater,
+        (true, false) => Ordering::Less,
+        (true, true) => compare(second, first),
+    }
+}
+
+fn scaled(parts: Parts) -> Scaled
+    ensures size { result.size ≡ parts.size }
+    ensures shift { result.shift ≡ parts.shift }
+{
+    Scaled {
+        size: parts.size,
+        shift: parts.shift,
     }
 }
 

@@ -2,6 +2,30 @@
 ghost use Rattle.std.specs.Prelude.{◌≡◌, ◌*◌, ◌%◌, ◌^◌, ◌<◌, ◌≤◌, IfSome, IfNone};
 ghost use Rattle.vm_decimal.specs.Arithmetic.{differ as signs_differ};
 
+/// `10^0` to `10^19`.
+const POWERS: [u64; 20] = [
+    1,
+    10,
+    100,
+    1_000,
+    10_000,
+    100_000,
+    1_000_000,
+    10_000_000,
+    100_000_000,
+    1_000_000_000,
+    10_000_000_000,
+    100_000_000_000,
+    1_000_000_000_000,
+    10_000_000_000_000,
+    100_000_000_000_000,
+    1_000_000_000_000_000,
+    10_000_000_000_000_000,
+    100_000_000_000_000_000,
+    1_000_000_000_000_000_000,
+    10_000_000_000_000_000_000,
+];
+
 /// `size * 10^shift`.
 #[derive(Clone, Copy)]
 pub(crate) struct Scaled {
@@ -63,6 +87,28 @@ fn wide_without_noughts(size: u128) -> (u128, u16)
     (size, noughts)
 }
 
+/// `10^exponent`.
+#[inline]
+pub(crate) fn power_of_ten(exponent: u64) -> u64
+    requires { exponent ≤ 19 }
+    ensures { result ≡ 10 ^ exponent }
+{
+    POWERS[exponent as usize]
+}
+
+/// The same of an exponent up to 38.
+#[inline]
+pub(crate) fn wide_power_of_ten(exponent: u16) -> u128
+    requires { exponent ≤ 38 }
+    ensures { result ≡ 10 ^ exponent }
+{
+    let exponent = u64::from(exponent);
+    if exponent < 20 {
+        return u128::from(power_of_ten(exponent));
+    }
+    u128::from(power_of_ten(19)) * u128::from(power_of_ten(exponent - 19))
+}
+
 /// `size * 10^gap`, none where that is above 128 bits.
 #[inline]
 pub(crate) fn raised(size: u128, gap: u16) -> Option<u128>
@@ -75,11 +121,11 @@ pub(crate) fn raised(size: u128, gap: u16) -> Option<u128>
     if gap > 38 {
         return None;
     }
-    let gap = u32::from(gap);
+    let power = wide_power_of_ten(gap);
     if gap < 20 && size <= u128::from(u64::MAX) {
-        return Some(size * u128::from(10u64.pow(gap)));
+        return Some(size * power);
     }
-    size.checked_mul(10u128.pow(gap))
+    size.checked_mul(power)
 }
 
 /// Whether two signs differ.

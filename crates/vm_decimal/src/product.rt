@@ -4,7 +4,7 @@ ghost use Rattle.std.specs.Result.{result_ok};
 ghost use Rattle.vm_decimal.specs.Arithmetic.{product as product_of};
 ghost use Rattle.vm_decimal.specs.Parts.{IsBare, value};
 
-use crate::dec::{Dec, Range, in_form};
+use crate::dec::{Dec, Range, in_form, or_range};
 use crate::parts::{Parts, differ};
 
 /// Two factors without the twos of the first and the fives of the second that make tens together, and
@@ -21,7 +21,7 @@ impl Dec {
     pub fn mul(self, other: Dec) -> Result<Dec, Range>
         ensures { result_ok result ≡ product_of self other }
     {
-        product(self.in_parts(), other.in_parts()).ok_or(Range)
+        or_range(product(self.in_parts(), other.in_parts()))
     }
 }
 

@@ -1,11 +1,12 @@
 //! Sums and differences.
-ghost use Rattle.std.specs.Prelude.{◌≡◌, ℤ, ◌+◌, ◌*◌, ◌^◌, ◌<◌, ◌+ℤ◌, ◌-ℤ◌};
+ghost use Rattle.std.specs.Prelude.{◌≡◌, ◌+◌, ◌*◌, ◌^◌, ◌<◌, ◌+ℤ◌, ◌-ℤ◌, ◌*ℤ◌, neg_ℤ, pos};
 ghost use Rattle.std.specs.Result.{result_ok};
 ghost use Rattle.vm_base.specs.Number.{signed};
 ghost use Rattle.vm_decimal.specs.Dec.{in_range};
 ghost use Rattle.vm_decimal.specs.Parts.{IsBare, value};
 
-use crate::dec::{Dec, Range, SIZES, in_form, placed_up};
+use crate::dec::{Dec, Range, SIZES, in_form, or_range, placed_up};
+use crate::level::at_one_level;
 use crate::parts::{Parts, raised};
 
 /// A size from which on a number of at most 38 digits doesn't bring another back below 10^38.
@@ -16,31 +17,48 @@ impl Dec {
     pub fn add(self, other: Dec) -> Result<Dec, Range>
         ensures { result_ok result ≡ in_range (self +ℤ other) }
     {
-        sum(self.in_parts(), other.in_parts()).ok_or(Range)
+        or_range(sum(self, other))
     }
 
     /// The difference, exact. `Range` comes exactly where it is out of range.
     pub fn sub(self, other: Dec) -> Result<Dec, Range>
         ensures { result_ok result ≡ in_range (self -ℤ other) }
     {
-        sum(self.in_parts(), opposite(other.in_parts())).ok_or(Range)
+        or_range(sum(self, other.opposite()))
     }
-}
 
-fn opposite(parts: Parts) -> Parts
-    requires { IsBare parts.size parts.shift }
-    ensures value { (z : ℤ) → z +ℤ value result ≡ z -ℤ value parts }
-    ensures bare { IsBare result.size result.shift }
-{
-    Parts {
-        negative: !parts.negative,
-        size: parts.size,
-        shift: parts.shift,
+    /// The number with the other sign.
+    #[inline]
+    fn opposite(self) -> Dec
+        ensures { result ≡ neg_ℤ self }
+    {
+        Dec {
+            mantissa: -self.mantissa,
+            shift: self.shift,
+        }
     }
 }
 
 /// The sum, none where it is out of range.
-fn sum(one: Parts, two: Parts) -> Option<Dec>
+#[inline]
+fn sum(one: Dec, two: Dec) -> Option<Dec>
+    ensures { result ≡ in_range (one +ℤ two) }
+{
+    match at_one_level(one, two) {
+        Some(both) => placed_at(both.one + both.two, both.shift as u16),
+        None => sum_of_parts(one.in_parts(), two.in_parts()),
+    }
+}
+
+/// `m * 10^(shift - 1000)`, none where it is out of range.
+#[inline]
+fn placed_at(m: i128, shift: u16) -> Option<Dec>
+    ensures { result ≡ in_range (m *ℤ pos (10 ^ shift)) }
+{
+    placed_up(m < 0, m.unsigned_abs(), shift)
+}
+
+fn sum_of_parts(one: Parts, two: Parts) -> Option<Dec>
     requires one { IsBare one.size one.shift }
     requires two { IsBare two.size two.shift }
     ensures { result ≡ in_range (value one +ℤ value two) }

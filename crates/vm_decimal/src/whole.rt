@@ -4,8 +4,8 @@ ghost use Rattle.vm_base.specs.Number.{signed};
 ghost use Rattle.vm_decimal.specs.Arithmetic.{floor_of, ceil_of, ones};
 ghost use Rattle.vm_decimal.specs.Division.{cut as cut_of};
 
-use crate::dec::Dec;
-use crate::parts::{Parts, without_noughts};
+use crate::dec::{Dec, of_parts};
+use crate::parts::{Parts, wide_power_of_ten, without_noughts};
 
 /// The shift of a number whose last digit counts ones.
 const ONES: u16 = 1000;
@@ -52,11 +52,7 @@ fn whole_number(negative: bool, size: u128) -> Dec
         return Dec::ZERO;
     }
     let (size, noughts) = without_noughts(size);
-    Dec {
-        size,
-        shift: ONES + noughts,
-        negative,
-    }
+    of_parts(negative, size, ONES + noughts)
 }
 
 /// The size without its last digits, and one more where the cut goes away from zero and they aren't all
@@ -85,7 +81,6 @@ fn parted(size: u128, places: u16) -> (u128, u128)
     if places > 38 {
         return (0, size);
     }
-    let places = u32::from(places);
-    let unit = 10u128.pow(places);
+    let unit = wide_power_of_ten(places);
     (size / unit, size % unit)
 }

@@ -2,6 +2,7 @@ mod Bare
 mod KeyLaws
 pub mod LineLaws
 mod Loops
+pub mod NumberTexts
 mod PairLaws
 mod PartLaws
 pub mod PrintLaws

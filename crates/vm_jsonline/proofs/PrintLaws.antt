@@ -1,29 +1,28 @@
 -- A series that is written as a line is read again as its rows.
-use Rattle.std.proofs.Common.{◌≡◌, ℕ, suc, zero, ◌+◌, ◌<◌, ◌^◌, Bool, true, false, cond, List, [], ◌∷◌, ◌++◌, length, map, get_or, Option, Some, None, refl, ap, sym, subst, ◌∙◌, arith, append_assoc, append-nil, lt-ltb}
+use Rattle.std.proofs.Common.{◌≡◌, ℕ, suc, zero, ◌+◌, ◌<◌, ◌^◌, Bool, true, false, cond, List, [], ◌∷◌, ◌++◌, length, map, Option, Some, None, refl, ap, sym, subst, ◌∙◌, arith, append_assoc, lt-ltb}
 use Rattle.std.specs.Prelude.{◌==◌, ◌&&◌, not, nat_lt, IsUtf8, option_map, slice_index, codes, filter, position, Ok, ℤ}
-use Rattle.std.specs.Char.{digit_value, is_ascii_digit}
+use Rattle.std.specs.Char.{is_ascii_digit}
 use Rattle.std.specs.Fmt.{decimal}
-use Rattle.std.specs.Int.{is_in_range}
 use Rattle.std.specs.List.{AllByRecursion, join_with_byte, list_all, prefix_len}
-use Rattle.std.specs.Str.Parse.{AllDigits}
 use Rattle.std.proofs.lemmas.Bool.{and_parts}
 use Rattle.std.proofs.lemmas.Bool.Decides.{nat_tests}
-use Rattle.std.proofs.lemmas.Fmt.{decimal_is_IsNumeral, decimal_digit, first_decimal}
+use Rattle.std.proofs.lemmas.Fmt.{decimal_is_IsNumeral, decimal_digit}
 use Rattle.std.proofs.lemmas.List.{length-map}
 use Rattle.std.proofs.lemmas.Str.{IsUtf8-from_ascii}
 use Rattle.json.specs.Print.{escape}
 use Rattle.vm_base.specs.declared.stamped.Stamped.{Stamped}
-use Rattle.vm_json.specs.Grammar.{is_plain, IsDigits, IsWhole, nought, whole, no_fraction, no_exponent, IsNumber, positive, bytes, Chars, last_quote, plain, Json, number, string, array, object, Jsons, no_json, one_json, Fields, no_field, one_field, no_space, a_number, a_string, an_array, an_object, an_item, Items, no_items, some_items, ItemList, item_list, no_more_items, more_items, Member, a_member, Members, no_members, some_members, MemberList, member_list, no_more_members, more_members, Spells, spells}
+use Rattle.vm_json.specs.Grammar.{is_plain, IsDigits, nought, whole, IsNumber, bytes, Chars, last_quote, plain, Json, number, string, array, object, Jsons, no_json, one_json, Fields, no_field, one_field, no_space, a_number, a_string, an_array, an_object, an_item, Items, no_items, some_items, ItemList, item_list, no_more_items, more_items, Member, a_member, Members, no_members, some_members, MemberList, member_list, no_more_members, more_members, Spells, spells}
 use Rattle.vm_labels.specs.Labels.{IsLabels, has_value, is_badly_named, built, ordered, unless}
 use Rattle.vm_labels.specs.Name.{begins_name, is_name_byte, is_name}
 use Rattle.vm_labels.specs.Text.{pair_json}
 use Rattle.vm_labels.specs.declared.fault.LabelFault.TheVariants.{BadName}
 use Rattle.vm_labels.specs.declared.pair.Pair.{Pair}
 use Rattle.vm_labels.proofs.BuildLaws.{ordered_already}
-use Rattle.vm_jsonline.specs.Print.{value_text, time_text, values_text, times_text, series_text, IsReadAs, CanBeRead, row_of, rows_again}
+use Rattle.vm_jsonline.specs.Print.{value_text, time_text, values_text, times_text, series_text, IsOfSample, CanBeRead, row_of, rows_again}
 use Rattle.vm_jsonline.specs.Reading.{reading}
 use Rattle.vm_jsonline.specs.Series.{all_of, items_of, members_of, pair_of, sample_of, time_in, time_of, rows_of, series_rows, have_texts, fields_have_texts, outcome}
 use Rattle.vm_jsonline.proofs.LineLaws.{one_reading}
+use Rattle.vm_jsonline.proofs.NumberTexts.{are_digits, numeral, only_whole, value_number, value_again}
 use Rattle.vm_jsonline.proofs.QuotedLaws.{quotes}
 use Rattle.vm_jsonline.specs.Means.{written}
 
@@ -138,36 +137,16 @@ built_again ps is =
 
 -- ---- times
 
-digit_from_value : (b : ℕ) → digit_value b < 10 → is_ascii_digit b ≡ true
-digit_from_value b few = grind (arith, nat_tests)
-
-are_digits : (ds : List ℕ) → AllDigits 10 ds → IsDigits ds
-are_digits [] all = tt
-are_digits (b ∷ ds) all = (digit_from_value b all.0, are_digits ds all.1)
-
 all_digits : (ds : List ℕ) → IsDigits ds → list_all is_ascii_digit ds ≡ true
 all_digits [] all = refl
 all_digits (b ∷ ds) all = rw all.0 (all_digits ds all.1)
 
-above_nought : (b : ℕ) → is_ascii_digit b ≡ true → 48 < b → is_in_range 49 57 b ≡ true
-above_nought b is some = grind (arith, nat_tests)
-
-only_whole : (w : List ℕ) → IsWhole w → IsNumber w
-only_whole w is = subst IsNumber (append-nil w) (positive w [] [] is no_fraction no_exponent)
-
 time_number : (t : ℕ) → t < 2 ^ 48 → IsNumber (decimal t)
 time_number zero few = subst IsNumber (sym (decimal_digit 0 (omega arith))) (only_whole (48 ∷ []) nought)
-time_number (suc t) few = go (decimal (suc t)) refl
-  where
-    go : (ds : List ℕ) → decimal (suc t) ≡ ds → IsNumber (decimal (suc t))
-    go [] is =
-        let some = (decimal_is_IsNumeral (suc t) (omega arith)).0.0 in
-        let none = ap length is in
-        absurd (omega arith)
-    go (b ∷ ds) is =
-        let digits = subst (λ d. IsDigits d) is (are_digits (decimal (suc t)) (decimal_is_IsNumeral (suc t) (omega arith)).0.1) in
-        let first : 48 < b = subst (λ d. 48 < get_or d 0 0) is (first_decimal (suc t) (omega arith) (omega arith)) in
-        subst IsNumber (sym is) (only_whole (b ∷ ds) (whole b (above_nought b digits.0 first) digits.1))
+time_number (suc t) few =
+    let n = numeral (suc t) (omega arith) (omega arith) in
+    let digits : IsDigits (n.first ∷ n.rest) = subst (λ d. IsDigits d) n.parts n.digits in
+    subst IsNumber (sym n.parts) (only_whole (n.first ∷ n.rest) (whole n.first n.above digits.1))
 
 time_again : (t : ℕ) → t < 2 ^ 48 → time_in (decimal t) ≡ Some t
 time_again t few =
@@ -180,17 +159,17 @@ time_again t few =
 abbrev some_value : Stamped → Option ℤ
 some_value s = Some s.value
 
-values_numbers : (ss : List Stamped) → AllByRecursion (λ s. IsReadAs s.value) ss → AllByRecursion IsNumber (map value_text ss)
+values_numbers : (ss : List Stamped) → AllByRecursion IsOfSample ss → AllByRecursion IsNumber (map value_text ss)
 values_numbers [] all = tt
-values_numbers (s ∷ ss) all = (all.0.number, values_numbers ss all.1)
+values_numbers (s ∷ ss) all = (value_number s.value all.0, values_numbers ss all.1)
 
 times_numbers : (ss : List Stamped) → AllByRecursion (λ s. s.time < 2 ^ 48) ss → AllByRecursion IsNumber (map time_text ss)
 times_numbers [] all = tt
 times_numbers (s ∷ ss) all = (time_number s.time all.0, times_numbers ss all.1)
 
-values_again : (ss : List Stamped) → AllByRecursion (λ s. IsReadAs s.value) ss → all_of sample_of (items_of (numbers (map value_text ss))) ≡ Some (map some_value ss)
+values_again : (ss : List Stamped) → AllByRecursion IsOfSample ss → all_of sample_of (items_of (numbers (map value_text ss))) ≡ Some (map some_value ss)
 values_again [] all = refl
-values_again (s ∷ ss) all = rw (all.0.value, values_again ss all.1) refl
+values_again (s ∷ ss) all = rw (value_again s.value all.0, values_again ss all.1) refl
 
 times_again : (ss : List Stamped) → AllByRecursion (λ s. s.time < 2 ^ 48) ss → all_of time_of (items_of (numbers (map time_text ss))) ≡ Some (map (λ s. s.time) ss)
 times_again [] all = refl

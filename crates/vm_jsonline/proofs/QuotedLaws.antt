@@ -1,6 +1,6 @@
 -- A string that is written with escapes stands for itself.
-use Rattle.std.proofs.Common.{◌≡◌, ◌⊎◌, inl, inr, ℕ, ◌+◌, ◌-◌, ◌*◌, ◌/◌, ◌%◌, ◌<◌, ◌≤◌, Bool, true, false, cond, List, [], ◌∷◌, ◌++◌, Some, refl, ap, sym, subst, ◌∙◌, arith, append_assoc, le-ltb, lt-ltb}
-use Rattle.std.specs.Prelude.{◌==◌, ◌||◌, nat_lt, IsUtf8, option_map, encode_utf8, flat_map}
+use Rattle.std.proofs.Common.{◌≡◌, ◌⊎◌, inl, inr, ℕ, ◌+◌, ◌*◌, ◌/◌, ◌%◌, ◌<◌, ◌≤◌, Bool, true, false, cond, List, [], ◌∷◌, ◌++◌, Some, refl, ap, sym, subst, ◌∙◌, arith, append_assoc, le-ltb, lt-ltb}
+use Rattle.std.specs.Prelude.{◌==◌, ◌||◌, nat_lt, IsUtf8, option_map, encode_utf8}
 use Rattle.std.specs.Char.{digit_value, digit_char}
 use Rattle.std.specs.Int.{is_in_range}
 use Rattle.std.proofs.lemmas.Bool.{cases_lt, and_parts}

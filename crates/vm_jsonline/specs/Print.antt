@@ -1,17 +1,15 @@
 -- How a series is written.
-use Rattle.std.specs.Prelude.{◌≡◌, ℕ, ◌<◌, ◌≤◌, ◌^◌, ◌==◌, ℤ, List, [], ◌∷◌, ◌++◌, length, map, Some, None, IsUtf8, codes, if◌then◌else◌}
+use Rattle.std.specs.Prelude.{◌≡◌, ℕ, ◌<◌, ◌≤◌, ◌^◌, ◌==◌, List, [], ◌∷◌, ◌++◌, length, map, None, true, IsUtf8, codes, if◌then◌else◌}
 use Rattle.std.specs.Fmt.{decimal}
 use Rattle.std.specs.List.{join_with_byte, AllByRecursion}
+use Rattle.vm_base.specs.Sample.{is_sample}
 use Rattle.vm_base.specs.declared.stamped.Stamped.{Stamped}
 use Rattle.vm_decimal.specs.NumberText.{number_text}
 use Rattle.vm_labels.specs.Text.{label_json}
 use Rattle.vm_labels.specs.declared.pair.Pair.{Pair}
-use Rattle.vm_decimal.specs.SampleText.{sample_reading}
-use Rattle.vm_json.specs.Grammar.{IsNumber}
 use Rattle.vm_labels.specs.Labels.{IsLabels, limit_of}
 use Rattle.vm_labels.specs.declared.row.Row.{Row}
 use Rattle.vm_jsonline.specs.Reading.{reading}
-use Rattle.vm_jsonline.specs.Series.{value_of}
 use Rattle.vm_jsonline.specs.declared.line.JsonLine.{JsonLine}
 use Rattle.vm_jsonline.specs.declared.line.JsonLine.TheVariants.{Rows}
 
@@ -40,17 +38,16 @@ series_text labels samples =
 
 -- ---- what is read again
 
--- a value whose text is a number of JSON that is read as this value
-pub record IsReadAs (z : ℤ) : Type 0 where
-  pub number : IsNumber (number_text z)
-  pub value : value_of (sample_reading (number_text z)) ≡ Some (Some z)
+-- its value is one that a `Sample` can have
+abbrev pub IsOfSample : Stamped → Type 0
+IsOfSample s = is_sample s.value ≡ true
 
 -- a label set within the limits of an import, of UTF-8, and samples within theirs, in a line that isn't too long
 pub record CanBeRead (labels : List Pair) (samples : List Stamped) : Type 0 where
   pub label_set : IsLabels labels
   pub limits : limit_of labels ≡ None
   pub texts : AllByRecursion (λ p. IsUtf8 p.value) labels
-  pub values : AllByRecursion (λ s. IsReadAs s.value) samples
+  pub values : AllByRecursion IsOfSample samples
   pub times : AllByRecursion (λ s. s.time < 2 ^ 48) samples
   pub short : length (series_text labels samples) ≤ 4194304
 

@@ -15,6 +15,8 @@
 #![tactic(auto)]
 
 mod line;
+#[cfg(test)]
+mod line_rows;
 mod parts;
 mod print;
 mod series;

@@ -30,8 +30,8 @@ pub fn print_series(
     out.extend_from_slice(&text)
 }
 
-/// What `print_series` writes is read again as its rows, where these keep the limits of an import and the
-/// text of each value is a number of JSON that is read as the value.
+/// What `print_series` writes is read again as its rows, where these keep the limits of an import. The text of
+/// every sample's value is read as this value.
 pub fn what_is_written_is_read()
     ensures { WrittenIsRead }
 {}

@@ -1,6 +1,7 @@
 //! Lines and what they say. The expected values were worked out by hand from RFC 8259 and from how
 //! VictoriaMetrics exports JSON lines; numbers as they print, rounded to 18 digits by Python's `decimal`.
 
+use crate::line_rows::ROWS;
 use crate::{JsonLine, print_series, read_line};
 use std::alloc::{AllocError, Global};
 use std::process::Abort;
@@ -43,38 +44,63 @@ fn says(rt: &impl Abort, alloc: Global, line: &str, expected: &str) -> Result<()
     Ok(())
 }
 
+/// A long line: a front, so many times a piece, a middle, as many times another one, and a back.
+#[derive(Clone, Copy)]
+struct LongLine<'a> {
+    front: &'a [u8],
+    opening: &'a [u8],
+    count: usize,
+    middle: &'a [u8],
+    closing: &'a [u8],
+    back: &'a [u8],
+}
+
+fn push_times(out: &mut Vec<u8>, piece: &[u8], count: usize) -> Result<(), AllocError> {
+    for _piece in 0..count {
+        out.extend_from_slice(piece)?;
+    }
+    Ok(())
+}
+
+/// Reads a long line and compares what it says.
+fn long_line_says(
+    rt: &impl Abort,
+    alloc: Global,
+    line: &LongLine<'_>,
+    expected: &str,
+) -> Result<(), AllocError> {
+    let mut text = Vec::from_slice(alloc, line.front)?;
+    push_times(&mut text, line.opening, line.count)?;
+    text.extend_from_slice(line.middle)?;
+    push_times(&mut text, line.closing, line.count)?;
+    text.extend_from_slice(line.back)?;
+    let said = words(alloc, &read_line(alloc, &text)?)?;
+    let count = line.count;
+    assert_eq!(rt; said.as_slice(), expected.as_bytes(), "{count} times");
+    Ok(())
+}
+
 #[test]
-fn whole_lines(rt: HostRuntime) -> Result<(), Fail> {
+fn lines(rt: HostRuntime) -> Result<(), Fail> {
+    let mut count = 0u32;
+    for row in ROWS.lines() {
+        if let Some((expected, line)) = row.split_once(" <- ") {
+            says(&rt, rt.alloc(), line, expected)?;
+            count = count.saturating_add(1);
+        }
+    }
+    assert_eq!(rt; count, 64);
+    Ok(())
+}
+
+#[test]
+fn white_space_and_control_characters(rt: HostRuntime) -> Result<(), Fail> {
     let rows = [
         ("", "nothing"),
         (" \t\r", "nothing"),
         (
-            r#"{"metric":{"__name__":"m","job":"x"},"values":[1,2.5,null],"timestamps":[10,20,30]}"#,
-            r#"rows {__name__="m",job="x"} 1 10 {__name__="m",job="x"} 2.5 20"#,
-        ),
-        (
-            r#" { "timestamps" : [ 5 ] , "x" : [{}] , "values" : [ -0 ] , "metric" : { "b" : "2" , "a" : "1" } } "#,
-            r#"rows {a="1",b="2"} 0 5"#,
-        ),
-        (
-            r#"{"metric":{"a":"1","b":""},"values":[1E+2,1.50,-1.5e-3],"timestamps":[3,2,1]}"#,
-            r#"rows {a="1"} 100 3 {a="1"} 1.5 2 {a="1"} -0.0015 1"#,
-        ),
-        (
-            r#"{"metric":{"a":"1"},"values":[1234567890123456789012345678901234567890],"timestamps":[0]}"#,
-            r#"rows {a="1"} 1.23456789012345679e+39 0"#,
-        ),
-        (
-            r#"{"metric":{"a":"1"},"values":["NaN",null,"+Inf","-infinity",7],"timestamps":[1,2,3,4,281474976710655]}"#,
-            r#"rows {a="1"} 7 281474976710655"#,
-        ),
-        (
-            r#"{"\u006detric":{"\u0061":"\u0041\n\"\\\/é😀\ud83d\ude00"},"values":[1],"timestamps":[1]}"#,
-            r#"rows {a="A\n\"\\/é😀😀"} 1 1"#,
-        ),
-        (
-            r#"{"metric":{"a":"1"},"values":[],"timestamps":[]}"#,
-            "rows",
+            r#"{"metric":{"a":"\b\f\r\t\u0000"},"values":[1],"timestamps":[1]}"#,
+            "rows {a=\"\u{8}\u{c}\r\t\0\"} 1 1",
         ),
     ];
     for (line, expected) in rows {
@@ -83,122 +109,77 @@ fn whole_lines(rt: HostRuntime) -> Result<(), Fail> {
     Ok(())
 }
 
+/// Rest of a line without rows.
+const REST: &[u8] = br#","metric":{"a":"1"},"values":[],"timestamps":[]}"#;
+
+/// Rest of a line whose one label's value, or name, was begun.
+const REST_OF_VALUE: &[u8] = br#""},"values":[],"timestamps":[]}"#;
+
+const REST_OF_NAME: &[u8] = br#"":"1"},"values":[],"timestamps":[]}"#;
+
 #[test]
-fn skipped_lines(rt: HostRuntime) -> Result<(), Fail> {
-    let rows = [
-        // No JSON.
-        ("nul", "skipped 3"),
+fn long_lines(rt: HostRuntime) -> Result<(), Fail> {
+    let rows: [(LongLine<'_>, &str); 13] = [
+        (deep(b"[", 99, b"", b"]"), "rows"),
+        (deep(b"[", 100, b"", b"]"), "skipped 104"),
+        (deep(br#"{"a":"#, 99, b"1", b"}"), "rows"),
+        (deep(br#"{"a":"#, 100, b"1", b"}"), "skipped 500"),
         (
-            r#"{"metric":{"a":"1"},"values":[1,],"timestamps":[1]}"#,
-            "skipped 32",
+            filled(br#"{"metric":{"a":""#, b"x", 4096, REST_OF_VALUE),
+            "rows",
         ),
         (
-            r#"{"metric":{"a":"1"},"values":[01],"timestamps":[1]}"#,
-            "skipped 31",
+            filled(br#"{"metric":{"a":""#, b"x", 4097, REST_OF_VALUE),
+            "skipped 0",
         ),
+        (filled(br#"{"metric":{""#, b"n", 256, REST_OF_NAME), "rows"),
         (
-            r#"{"metric":{"a":"1"},"values":[1],"timestamps":[1]"#,
-            "skipped 49",
-        ),
-        (
-            r#"{"metric":{"a":"1"},"values":[1],"timestamps":[1]}}"#,
-            "skipped 50",
-        ),
-        (
-            r#"{"metric":{"a":"1"},"values":[NaN],"timestamps":[1]}"#,
-            "skipped 30",
-        ),
-        // JSON, but no series.
-        ("[]", "skipped 0"),
-        ("1", "skipped 0"),
-        ("{}", "skipped 0"),
-        (r#"{"metric":{},"values":[],"timestamps":[]}"#, "skipped 0"),
-        (
-            r#"{"metric":{"a":"1"},"values":[1],"timestamps":[1,2]}"#,
+            filled(br#"{"metric":{""#, b"n", 257, REST_OF_NAME),
             "skipped 0",
         ),
         (
-            r#"{"metric":{"a":"1"},"values":[1],"timestamps":[1],"values":[1]}"#,
-            "skipped 0",
+            filled(
+                b" ",
+                b"                                                                ",
+                65_536,
+                b"",
+            ),
+            "skipped 4194304",
         ),
-        (
-            r#"{"metric":{"a":"1"},"values":[1],"timestamps":[1],"v\u0061lues":0}"#,
-            "skipped 0",
-        ),
-        (
-            r#"{"metric":{"a":1},"values":[1],"timestamps":[1]}"#,
-            "skipped 0",
-        ),
-        (
-            r#"{"metric":["a"],"values":[1],"timestamps":[1]}"#,
-            "skipped 0",
-        ),
-        (
-            r#"{"metric":{"a":"1"},"values":{},"timestamps":[]}"#,
-            "skipped 0",
-        ),
-        (
-            r#"{"metric":{"a":"1"},"values":[true],"timestamps":[1]}"#,
-            "skipped 0",
-        ),
-        (
-            r#"{"metric":{"a":"1"},"values":[[1]],"timestamps":[1]}"#,
-            "skipped 0",
-        ),
-        (
-            r#"{"metric":{"a":"1"},"values":["1"],"timestamps":[1]}"#,
-            "skipped 0",
-        ),
-        (
-            r#"{"metric":{"a":"1"},"values":[1e400],"timestamps":[1]}"#,
-            "skipped 0",
-        ),
-        (
-            r#"{"metric":{"a":"1"},"values":[1],"timestamps":[-0]}"#,
-            "skipped 0",
-        ),
-        (
-            r#"{"metric":{"a":"1"},"values":[1],"timestamps":[1.0]}"#,
-            "skipped 0",
-        ),
-        (
-            r#"{"metric":{"a":"1"},"values":[1],"timestamps":[1e3]}"#,
-            "skipped 0",
-        ),
-        (
-            r#"{"metric":{"a":"1"},"values":[1],"timestamps":["1"]}"#,
-            "skipped 0",
-        ),
-        (
-            r#"{"metric":{"a":"1"},"values":[1],"timestamps":[281474976710656]}"#,
-            "skipped 0",
-        ),
-        (
-            r#"{"metric":{"a-b":"1"},"values":[1],"timestamps":[1]}"#,
-            "skipped 0",
-        ),
-        (
-            r#"{"metric":{"a":"1","\u0061":"2"},"values":[1],"timestamps":[1]}"#,
-            "skipped 0",
-        ),
-        // Half a pair of UTF-16, in a member that counts and in one that doesn't.
-        (
-            r#"{"metric":{"a":"\ud800"},"values":[1],"timestamps":[1]}"#,
-            "skipped 0",
-        ),
-        (
-            r#"{"metric":{"a":"1"},"values":[1],"timestamps":[1],"x":["\ud800","\udc00"]}"#,
-            "skipped 0",
-        ),
-        (
-            r#"{"metric":{"a":"1"},"values":[1],"timestamps":[1],"\udc00\ud800":0}"#,
-            "skipped 0",
-        ),
+        // UTF-8 that is broken at its first byte, its second and its third.
+        (filled(br#"{"x":""#, b"\xff", 1, b"\""), "skipped 6"),
+        (filled(br#"{"x":""#, b"\xc3", 1, b"\""), "skipped 7"),
+        (filled(br#"{"x":""#, b"\xe2\x82", 1, b"\""), "skipped 8"),
+        (filled(br#"{"x":""#, b"\xed\xa0\x80", 1, b"\""), "skipped 7"),
     ];
     for (line, expected) in rows {
-        says(&rt, rt.alloc(), line, expected)?;
+        long_line_says(&rt, rt.alloc(), &line, expected)?;
     }
     Ok(())
+}
+
+/// A member that is ignored with so many brackets, in a line without rows.
+fn deep<'a>(opening: &'a [u8], count: usize, middle: &'a [u8], closing: &'a [u8]) -> LongLine<'a> {
+    LongLine {
+        front: br#"{"x":"#,
+        opening,
+        count,
+        middle,
+        closing,
+        back: REST,
+    }
+}
+
+/// So many times a piece between a front and a back.
+fn filled<'a>(front: &'a [u8], piece: &'a [u8], count: usize, back: &'a [u8]) -> LongLine<'a> {
+    LongLine {
+        front,
+        opening: piece,
+        count,
+        middle: b"",
+        closing: b"",
+        back,
+    }
 }
 
 /// Prints the rows of a line again, as one series.

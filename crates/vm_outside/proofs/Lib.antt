@@ -1,2 +1,3 @@
 mod Pieces
 pub mod Streams
+mod RecordLaws

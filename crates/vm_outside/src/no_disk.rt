@@ -1,5 +1,7 @@
-ghost use Rattle.std.specs.Prelude.{◌≡◌, IsErr};
+//! A disk that isn't there.
+ghost use Rattle.std.specs.Prelude.{◌≡◌, IsErr, IsTrue, false, []};
 ghost use Rattle.vm_outside.specs.Outside.{raised};
+ghost use Rattle.vm_outside.specs.NoDisk.{never};
 
 use crate::{Disk, Failed};
 
@@ -27,6 +29,24 @@ impl NoDisk {
 }
 
 impl Disk for NoDisk {
+    ghost honest = { λ disk. false };
+
+    ghost reads = { λ disk file. [] };
+
+    ghost may_leave = { λ disk file left. ⊥ };
+
+    ghost moment = { λ disk. 0 };
+
+    ghost left_since = { λ disk since image. ⊥ };
+
+    ghost bytes_read = { λ disk. 0 };
+
+    ghost reads_as_left = { λ disk honest file. never honest };
+
+    ghost counts_now = { λ disk since image within each. each 0 };
+
+    ghost only_now = { λ disk image left file. left };
+
     ghost read_faults = { λ disk. disk.read_faults };
 
     ghost write_faults = { λ disk. disk.write_faults };

@@ -5,5 +5,5 @@ use Rattle.mql_lists.proofs.braces.begins_item.Goals as goal
 
 pub name_text-requires-clause-name : goal.name_text-requires-clause-name
 name_text-requires-clause-name c =
-    label_says (word_of c.args.text.now c.args.token) c.role_of_token-role.result (sym c.role_of_token-role.ensures)
+    label_says (word_of c.args.text.now c.args.token) c.args.role (sym c.requires.role)
     (sym c.is_label.ensures ∙ c.if-not-is_label.false)

@@ -1,12 +1,9 @@
-use Rattle.vm_decimal.proofs.Orders.{below_zero}
+use Rattle.std.proofs.Common.{◌∙◌}
+use Rattle.vm_decimal.proofs.Levels.{order_at}
 use Rattle.vm_decimal.proofs.order.DecOrd.cmp.Goals as goal
 
-pub returns-in-true-false : goal.returns-in-true-false
-returns-in-true-false c =
-    (below_zero c.self.inside c.other.inside c.args.self.now c.args.other.now
-    c.self.invariant c.self.view_is c.other.view_is c.in-true-false.is-0 c.in-true-false.is-1).0
-
-pub returns-in-false-true : goal.returns-in-false-true
-returns-in-false-true c =
-    (below_zero c.other.inside c.self.inside c.args.other.now c.args.self.now
-    c.other.invariant c.other.view_is c.self.view_is c.in-false-true.is-1 c.in-false-true.is-0).1
+pub returns-in-Some : goal.returns-in-Some
+returns-in-Some c =
+    let both = c.in-Some.both in
+    let is = c.in-Some.ensures in
+    c.cmp.ensures ∙ order_at both.one both.two c.args.self.now c.args.other.now both.shift is.one_is is.two_is

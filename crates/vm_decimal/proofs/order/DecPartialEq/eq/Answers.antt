@@ -1,33 +1,25 @@
-use Rattle.std.proofs.Common.{◌≡◌, ◌∙◌, arith}
+use Rattle.std.proofs.Common.{◌≡◌, ◌==◌, false, rules, arith, ap, sym, ◌∙◌, to_z, of_z}
+use Rattle.std.proofs.lemmas.Int.{to_z-of_z}
 use Rattle.std.proofs.lemmas.Bool.Decides.{nat_tests}
-use Rattle.vm_decimal.proofs.Orders.{alike, unlike, same_sign, other_sign}
+use Rattle.std.specs.Int.{w128}
+use Rattle.vm_decimal.proofs.Orders.{alike, unlike}
 use Rattle.vm_decimal.proofs.order.DecPartialEq.eq.Goals as goal
-use Rattle.vm_decimal.proofs.order.DecPartialEq.eq.Goals.{then-self-other, else-self-other}
 
-pub returns-then-self-other-2 : goal.returns-then-self-other-2
-returns-then-self-other-2 c =
-    let s = c.self.inside in
-    let o = c.other.inside in
-    elim c.if-self-other.branch [
-      | then-self-other w ↦
-          let signs = same_sign s.negative o.negative w.if-self-other.true in
-          let sizes : s.size ≡ o.size = grind (arith, nat_tests, w.value-is, c.if-self-other-2.true) in
-          alike s o c.args.self.now c.args.other.now
-          c.self.invariant c.other.invariant c.self.view_is c.other.view_is signs sizes
-      | else-self-other w ↦ absurd (cc (w.value-is, w.if-self-other.false, c.if-self-other-2.true))
-    ]
+pub returns-then-self-other : goal.returns-then-self-other
+returns-then-self-other c =
+    let mine = c.self.inside.mantissa in
+    let its = c.other.inside.mantissa in
+    alike c.self.inside c.other.inside c.args.self.now c.args.other.now
+    c.self.invariant c.other.invariant c.self.view_is c.other.view_is
+    (sym (to_z-of_z w128 mine (search rules)) ∙ ap (to_z w128) c.if-self-other.true
+    ∙ to_z-of_z w128 its (search rules))
 
-pub returns-else-self-other-2 : goal.returns-else-self-other-2
-returns-else-self-other-2 c =
-    let s = c.self.inside in
-    let o = c.other.inside in
-    let differ = unlike s o c.args.self.now c.args.other.now
-    c.self.invariant c.other.invariant c.self.view_is c.other.view_is in
-    c.if-self-other-2.false
-    ∙ elim c.if-self-other.branch [
-      | then-self-other w ↦
-          let sizes : s.size ≡ o.size → ⊥ =
-          λ h. grind (arith, nat_tests, w.value-is, c.if-self-other-2.false) in
-          differ (λ _ h _. sizes h)
-      | else-self-other w ↦ differ (λ h _ _. other_sign s.negative o.negative w.if-self-other.false h)
-    ]
+pub returns-else-self-other : goal.returns-else-self-other
+returns-else-self-other c =
+    let mine = c.self.inside.mantissa in
+    let its = c.other.inside.mantissa in
+    let differ = c.if-self-other.false in
+    let apart : (of_z w128 mine == of_z w128 its) ≡ false = grind (arith, nat_tests) in
+    apart
+    ∙ unlike c.self.inside c.other.inside c.args.self.now c.args.other.now
+    c.self.invariant c.other.invariant c.self.view_is c.other.view_is (λ h _. c.if-self-other.false (ap (of_z w128) h))

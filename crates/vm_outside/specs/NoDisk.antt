@@ -1,0 +1,6 @@
+-- A disk that isn't there is not honest.
+use Rattle.std.specs.Prelude.{◌≡◌, true, false}
+use Rattle.std.proofs.Common.{true≢false, sym}
+
+pub never : false ≡ true → ⊥
+never honest = true≢false (sym honest)
