@@ -105,22 +105,6 @@ pub(crate) fn grouped(
     Ok(Expr::call(at, called, args))
 }
 
-/// A call with `keep_metric_names`.
-pub(crate) fn keeping(
-    alloc: Global,
-    at: u64,
-    name: &str,
-    args: List<Expr>,
-) -> Result<Expr, AllocError> {
-    let called = Called {
-        name: Text::from_str(alloc, name)?,
-        before: None,
-        after: None,
-        keep: true,
-    };
-    Ok(Expr::call(at, called, args))
-}
-
 /// `left op right` at the place 2.
 pub(crate) fn binary(alloc: Global, left: Expr, op: Op, right: Expr) -> Result<Expr, AllocError> {
     let matching = matched(alloc, MatchKind::All, &[], Many::One, &[])?;
