@@ -8,8 +8,6 @@
 
 mod arguments;
 mod build;
-#[cfg(test)]
-mod check_tests;
 mod expr;
 mod fault;
 mod item;
@@ -17,13 +15,9 @@ mod kinds;
 mod levels;
 mod names;
 mod print_parts;
-#[cfg(test)]
-mod print_tests;
 mod query_check;
 mod query_text;
 mod span_text;
-#[cfg(test)]
-mod trees;
 
 pub use arguments::{Kind, Rest};
 pub use build::{Called, Joint};
