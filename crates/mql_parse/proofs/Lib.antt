@@ -1,8 +1,15 @@
+mod Endings
+mod Falls
 mod FromRead
 mod Held
 mod Limits
 mod Moves
+mod Openings
 mod Parts
 pub mod ReadingLaws
+mod Sums
 mod ToRead
+mod TokenPlaces
+mod Turns
 mod Viable
+mod WordKinds

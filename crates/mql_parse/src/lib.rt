@@ -1,15 +1,25 @@
-//! The grammar of queries, and a machine that reads it, one token a step.
-//!
-//! `specs/Grammar.antt` says which words are an expression, apart from how they are read, and
-//! `specs/Machine.antt` computes. `laws` states that the machine reads the grammar and nothing else, and
-//! where it stops at other words.
-//!
-//! It stands on `mql_lists` for the words of a query and the parts that don't nest, on `mql_expr` for
-//! trees, on `vm_decimal` for numbers and on `vm_base` for first wrong places.
+//! Queries, from their tokens.
 #![tactic(auto)]
 
+mod duration;
 mod fault;
+mod joining;
 mod laws;
+mod measuring;
+mod naming;
+mod opening;
+mod operand;
+mod parse_fault;
+mod parser;
+mod reducing;
+mod stack;
+mod state;
+mod step;
+mod templating;
+#[cfg(test)]
+mod tests;
+mod wanted;
 
-pub use fault::Wrong;
 pub use laws::{expressions_are_read, words_are_one_expression, wrong_words_are_named};
+pub use parse_fault::ParseFault;
+pub use parser::parse;
