@@ -195,17 +195,19 @@ module _ (len : ℕ) (whole : List Word) where
   kept_continue : (fs : List Frame) (o : Bool) (t : Tree) (start : List Word) (w : Word) (rest : List Word) (u : State) → Built len whole fs start
       → Reads len (opened fs) 0 o start (w ∷ rest) t → Is Class.Comma w → continue_frame fs t ≡ Ok u → HeldAt len whole u rest
   kept_continue (in_args c ∷ fs) o t start w rest u (first, args, built) reads is move =
-      landed len whole (at (in_args (one_more c t) ∷ fs) wanted) u rest move
-      (first,
-      (λ ts e behind more is_e. subst (λ d. CallRead len (opened fs) d first behind) (sym (one_more_arg c t ts)) (args (t ∷ ts) e behind (next_arg w reads is more) is_e)),
-      built)
+      landed len whole (at (in_args (one_more c t) ∷ fs) wanted) u rest move (
+        first,
+        (λ ts e behind more is_e. subst (λ d. CallRead len (opened fs) d first behind) (sym (one_more_arg c t ts)) (args (t ∷ ts) e behind (next_arg w reads is more) is_e)),
+        built,
+      )
   kept_continue (in_template scope h ps ∷ fs) o t start w rest u (first, mid, e, templates, head, is_e, built) reads is move =
       let new : TreeTemplate = record { at = h.at; name = h.name; params = ps; body = t } in
-      landed len whole (at fs (template_wanted (with_one_more scope h ps t))) u rest move
-      (first,
-      (λ ts c body more is_c. subst (λ d. WithRead len (opened fs) d first body) (sym (one_more_template scope new ts))
-      (templates (new ∷ ts) c body (more_templates w (headed e head refl is_e reads) is more) is_c)),
-      built)
+      landed len whole (at fs (template_wanted (with_one_more scope h ps t))) u rest move (
+        first,
+        (λ ts c body more is_c. subst (λ d. WithRead len (opened fs) d first body) (sym (one_more_template scope new ts))
+            (templates (new ∷ ts) c body (more_templates w (headed e head refl is_e reads) is more) is_c)),
+        built,
+      )
   kept_continue [] o t start w rest u built reads is move = absurd (cc move)
   kept_continue (in_parens ∷ fs) o t start w rest u built reads is move = absurd (cc move)
   kept_continue (in_minus place ∷ fs) o t start w rest u built reads is move = absurd (cc move)
@@ -383,13 +385,14 @@ module _ (len : ℕ) (whole : List Word) where
   kept_window_wanted fs place t start v w rest u x is_v same built Class.Time is move =
       let new : State = at fs (window_read place t (ahead (length_of w.text))) in
       let fit = length_fits w new u move in
-      landed len whole new u rest (length_to w new u move)
-      (start,
-      (λ e more rest_is is_e last offset off.
-      let x' = subst (λ words. Primary len (opened fs) start (v ∷ w ∷ words) t) rest_is x in
-      subst (λ p. Reads len (opened fs) postfix false start last (ranged p t (Some (ahead (length_of w.text))) offset)) (sym same)
-      (a_postfix x' (a_window v w e is_v is fit is_e off))),
-      built)
+      landed len whole new u rest (length_to w new u move) (
+        start,
+        (λ e more rest_is is_e last offset off.
+            let x' = subst (λ words. Primary len (opened fs) start (v ∷ w ∷ words) t) rest_is x in
+            subst (λ p. Reads len (opened fs) postfix false start last (ranged p t (Some (ahead (length_of w.text))) offset)) (sym same)
+            (a_postfix x' (a_window v w e is_v is fit is_e off))),
+        built,
+      )
   kept_window_wanted fs place t start v w rest u x is_v same built _ is move = absurd (cc move)
 
   kept_window_read : (fs : List Frame) (place : ℕ) (t : Tree) (span : Span) (start : List Word) (w : Word) (rest : List Word) (u : State)
@@ -436,10 +439,11 @@ module _ (len : ℕ) (whole : List Word) where
       let new : State = at fs (template_wanted (record { at = place; templates = [] })) in
       let may = may_open len w.at fs new u move in
       let to : reached new ≡ reached u = ap reached (allowed_to (fits (nat_lt w.at len) (nat_lt (opened fs) deepest)) TooDeep new u move) in
-      landed len whole new u rest to
-      (v ∷ w ∷ rest,
-      (λ ts e body more is_e. subst (λ p. WithRead len (opened fs) (record { at = p; templates = ts }) (v ∷ w ∷ rest) body) (sym same) (whole_with v w e is_v is may more is_e)),
-      built)
+      landed len whole new u rest to (
+        v ∷ w ∷ rest,
+        (λ ts e body more is_e. subst (λ p. WithRead len (opened fs) (record { at = p; templates = ts }) (v ∷ w ∷ rest) body) (sym same) (whole_with v w e is_v is may more is_e)),
+        built,
+      )
   kept_with_read fs place v w rest u same is_v built _ is move = absurd (cc move)
 
   kept_template_wanted : (fs : List Frame) (scope : Scope) (start : List Word) (w : Word) (rest : List Word) (u : State)
@@ -513,8 +517,13 @@ module _ (len : ℕ) (whole : List Word) where
       part_kept params_step params_start s w inner rest (λ t. at fs (in_params scope h t)) (λ ps. at fs (template_headed scope h ps)) u
       (λ q. HeldAt len whole q rest) history move
       (λ t more. (start, v, p, inner, read, same, is_v, is_p, more, built))
-      (λ ps more. (start, v ∷ p ∷ inner, read,
-      subst (λ g. TemplateHead g ps (v ∷ p ∷ inner) rest) (sym same) (template_head v is_v (some_params p is_p (params_from more))), built))
+      (λ ps more. (
+        start,
+        v ∷ p ∷ inner,
+        read,
+        subst (λ g. TemplateHead g ps (v ∷ p ∷ inner) rest) (sym same) (template_head v is_v (some_params p is_p (params_from more))),
+        built,
+      ))
   kept fs (template_headed scope h ps) w rest u (start, mid, read, head, built) move =
       kept_template_headed fs scope h ps start mid w rest u read head built (class_of_word w) refl move
 

@@ -143,7 +143,7 @@ module _ (len : ℕ) (fs : List Frame) {r : Tree} where
   after_go c (no_group {text = text}) reads plain =
       like len (at fs (called c)) (at fs (regrouped c)) (called_like len fs c) text r
       (subst (λ g. Yields len (at fs (regrouped (record { at = c.at; name = c.name; args = c.args; before = c.before; after = g }))) text r) (sym plain) reads)
-  after_go c (a_group {text = text} w by_word is names) reads plain = 
+  after_go c (a_group {text = text} w by_word is names) reads plain =
       on_class len fs (called c) (Class.Grouping by_word) (at fs (names_wanted (after_args c by_word))) w text r is refl (wanted_names (after_args c by_word) names reads)
 
   -- a name, and a group where one stands, before `(`

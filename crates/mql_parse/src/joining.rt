@@ -102,7 +102,13 @@ fn by_compared(
         Class::Pairing(kind) => Ok(Last::NamesWanted(NamesFor::Pairs(pending, kind))),
         _ => {
             let matching = all_labels(alloc);
-            within(alloc, stack, Open::Operating(pending, matching), text, token)
+            within(
+                alloc,
+                stack,
+                Open::Operating(pending, matching),
+                text,
+                token,
+            )
         }
     }
 }
@@ -134,7 +140,13 @@ fn by_matched(
         }))),
         _ => {
             let matching = modifiers(alloc, kind, names, Many::One);
-            within(alloc, stack, Open::Operating(pending, matching), text, token)
+            within(
+                alloc,
+                stack,
+                Open::Operating(pending, matching),
+                text,
+                token,
+            )
         }
     }
 }
@@ -164,7 +176,13 @@ fn by_widened(
                 many,
             } = paired;
             let matching = modifiers(alloc, kind, names, many);
-            within(alloc, stack, Open::Operating(pending, matching), text, token)
+            within(
+                alloc,
+                stack,
+                Open::Operating(pending, matching),
+                text,
+                token,
+            )
         }
     }
 }

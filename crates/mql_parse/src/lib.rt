@@ -1,8 +1,14 @@
 //! Queries, from their tokens.
 #![tactic(auto)]
 
+#[cfg(test)]
+mod check_tests;
+#[cfg(test)]
+mod depth_tests;
 mod duration;
 mod fault;
+#[cfg(test)]
+mod fault_tests;
 mod joining;
 mod laws;
 mod measuring;

@@ -88,10 +88,7 @@ fn by_window(
         (after_window (the_frames (stack_of stack.old)) ranging.at (tree ranging.inner) span here.at here.class) }
 {
     match here.class {
-        Class::Offset => Ok(Last::Measuring(Measuring::OffsetWanted(
-            ranging,
-            Some(span),
-        ))),
+        Class::Offset => Ok(Last::Measuring(Measuring::OffsetWanted(ranging, Some(span)))),
         _ => {
             let Ranging { at, inner } = ranging;
             let expr = Expr::ranged(alloc, at, inner, Some(span), None)?;
@@ -118,9 +115,7 @@ fn by_offset_wanted(
             Some(span) => whole(alloc, ranging, window, span),
             None => Err(StepError::Refused(Wrong::NumberTooWide)),
         },
-        Class::Operator(Op::Sub) => {
-            Ok(Last::Measuring(Measuring::OffsetBack(ranging, window)))
-        }
+        Class::Operator(Op::Sub) => { Ok(Last::Measuring(Measuring::OffsetBack(ranging, window))) }
         _ => Err(StepError::Refused(Wrong::Unexpected)),
     }
 }

@@ -49,11 +49,7 @@ pub(crate) fn behind_names(
 }
 
 /// Behind names and their `)`.
-fn named_for(
-    stack: &mut Stack,
-    purpose: NamesFor,
-    names: List<Text>,
-) -> Result<Last, StepError>
+fn named_for(stack: &mut Stack, purpose: NamesFor, names: List<Text>) -> Result<Last, StepError>
     ensures { Steps result (stack_of stack.new) (reached (behind_purpose (the_frames (stack_of stack.old)) (the_purpose purpose) names)) }
 {
     match purpose {

@@ -67,12 +67,7 @@ pub(crate) fn by_regrouped(
 }
 
 /// Behind a call with all that belongs to it.
-fn by_call(
-    alloc: Global,
-    stack: &mut Stack,
-    call: Calling,
-    here: Here,
-) -> Result<Last, StepError>
+fn by_call(alloc: Global, stack: &mut Stack, call: Calling, here: Here) -> Result<Last, StepError>
     ensures { Steps result (stack_of stack.new) (after_primary (the_frames (stack_of stack.old)) (called_tree (the_call call) false) here.at here.class) }
 {
     let expr = whole_call(call, false);
@@ -128,12 +123,7 @@ pub(crate) fn by_name(
 }
 
 /// Behind a name that is a selector.
-fn by_metric(
-    alloc: Global,
-    stack: &mut Stack,
-    head: Heading,
-    here: Here,
-) -> Result<Last, StepError>
+fn by_metric(alloc: Global, stack: &mut Stack, head: Heading, here: Here) -> Result<Last, StepError>
     ensures { Steps result (stack_of stack.new) (after_primary (the_frames (stack_of stack.old)) (metric_tree (the_head head)) here.at here.class) }
 {
     let expr = metric(alloc, head);

@@ -53,10 +53,7 @@ fn by_with(alloc: Global, stack: &mut Stack, at: u64, class: Class) -> Result<La
         Class::OpenRound if !stack.has_room() => Err(StepError::Refused(Wrong::TooDeep)),
         Class::OpenRound => {
             let templates = List::new(alloc);
-            Ok(Last::Templating(Templating::Wanted(Scoping {
-                at,
-                templates,
-            })))
+            Ok(Last::Templating(Templating::Wanted(Scoping { at, templates })))
         }
         _ => Err(StepError::Refused(Wrong::Unexpected)),
     }
