@@ -77,10 +77,10 @@ fn whole(alloc: Global, stack: &mut Stack, last: Last) -> Result<Option<Expr>, A
     };
     let expr = reduce(alloc, stack, 0, expr)?;
     if stack.is_empty() {
-        Ok(Some(expr))
-    } else {
-        Ok(None)
+        return Ok(Some(expr));
     }
+    drop(expr);
+    Ok(None)
 }
 
 /// The expression that stands before the next token, where one may end there.
@@ -92,7 +92,10 @@ fn standing(alloc: Global, last: Last) -> Result<Option<Expr>, AllocError>
         Last::Called(call) | Last::Regrouped(call) => Ok(Some(whole_call(call, false))),
         Last::Primary(expr) | Last::Complete(expr) => Ok(Some(expr)),
         Last::Measuring(state) => windowed(alloc, state),
-        _ => Ok(None),
+        other => {
+            drop(other);
+            Ok(None)
+        }
     }
 }
 
@@ -106,6 +109,9 @@ fn windowed(alloc: Global, state: Measuring) -> Result<Option<Expr>, AllocError>
             let expr = Expr::ranged(alloc, at, inner, Some(span), None)?;
             Ok(Some(expr))
         }
-        _ => Ok(None),
+        other => {
+            drop(other);
+            Ok(None)
+        }
     }
 }
