@@ -1,5 +1,5 @@
 -- The parser's turns: one token each.
-use Rattle.std.specs.Prelude.{◌≡◌, ℕ, zero, suc, ◌<◌, List, [], ◌∷◌, ◌++◌, length, take, drop, map, Option, Some, None, Result, Ok, Err, option_and_then, true, false}
+use Rattle.std.specs.Prelude.{◌≡◌, ℕ, zero, suc, ◌+◌, ◌<◌, ◌≤◌, List, [], ◌∷◌, ◌++◌, length, take, drop, map, Option, Some, None, Result, Ok, Err, option_and_then, true, false}
 use Rattle.std.proofs.Common.{refl, ap, sym, subst, ◌∙◌, arith, get_or}
 use Rattle.vm_base.specs.Run.{run}
 use Rattle.vm_base.proofs.RunLaws.{run-append}
@@ -11,7 +11,8 @@ use Rattle.mql_parse.specs.Machine.{State, moved, step, by, final_of, start}
 use Rattle.mql_parse.specs.declared.fault.Wrong.{Wrong}
 use Rattle.mql_parse.specs.declared.fault.Wrong.TheVariants.{Unexpected, TooDeep, NumberTooWide}
 use Rattle.mql_expr.specs.Tree.{Tree}
-use Rattle.mql_parse.specs.Views.{the_fault}
+use Rattle.mql_parse.specs.Views.{the_fault, Steps}
+use Rattle.mql_parse.specs.declared.state.Open.{Open}
 use Rattle.mql_parse.specs.declared.fault.StepError.{StepError}
 use Rattle.mql_parse.specs.declared.fault.StepError.TheVariants.{Memory, Refused}
 use Rattle.mql_parse.specs.declared.parse_fault.ParseFault.{ParseFault}
@@ -59,32 +60,39 @@ module _ {T : Type 0} (f : T → Word) where
         subst (λ ws. IsBeyond true len ws (f (get_or ts i d)).at) (sym (split_at ts i d inside))
         (wide_there len (take i (map f ts)) (drop (suc i) (map f ts)) s (f (get_or ts i d)) there move)
 
+    pub turn_more : (u : State) → by len s.frames s.before (f (get_or ts i d)) (class_of_word (f (get_or ts i d))) ≡ Ok u
+        → run (step len) start (take (i + 1) (map f ts)) ≡ Some u
+    turn_more u move =
+        let more : suc i ≡ i + 1 = omega arith in
+        subst (λ n. run (step len) start (take n (map f ts)) ≡ Some u) more (turn_on u move)
+
     -- what a refused token says of the text
-    abbrev pub Refuses : StepError → Type 0
-    Refuses Memory = Unit {0}
-    Refuses (Refused wrong) = by len s.frames s.before (f (get_or ts i d)) (class_of_word (f (get_or ts i d))) ≡ Err wrong
+    abbrev pub Refuses : StepError → List Open → Type 0
+    Refuses e opens = Steps (Err e) opens (by len s.frames s.before (f (get_or ts i d)) (class_of_word (f (get_or ts i d))))
 
-    pub fault_unexpected : (e : StepError) (at : ℕ) → Refuses e → the_fault e (f (get_or ts i d)).at ≡ ParseFault.Unexpected at → IsUnexpected len (map f ts) at
-    fault_unexpected Memory at is same = absurd (cc same)
-    fault_unexpected (Refused Unexpected) at is same = let here : (f (get_or ts i d)).at ≡ at = cc same in subst (IsUnexpected len (map f ts)) here (turn_unexpected is)
-    fault_unexpected (Refused TooDeep) at is same = absurd (cc same)
-    fault_unexpected (Refused NumberTooWide) at is same = absurd (cc same)
+    pub fault_unexpected : (opens : List Open) (e : StepError) (at : ℕ) → Refuses e opens → the_fault e (f (get_or ts i d)).at ≡ ParseFault.Unexpected at → IsUnexpected len (map f ts) at
+    fault_unexpected opens Memory at is same = absurd (cc same)
+    fault_unexpected opens (Refused Unexpected) at is same = let here : (f (get_or ts i d)).at ≡ at = cc same in subst (IsUnexpected len (map f ts)) here (turn_unexpected is)
+    fault_unexpected opens (Refused TooDeep) at is same = absurd (cc same)
+    fault_unexpected opens (Refused NumberTooWide) at is same = absurd (cc same)
 
-    pub fault_deep : (e : StepError) (at : ℕ) → Refuses e → the_fault e (f (get_or ts i d)).at ≡ ParseFault.TooDeep at → IsBeyond false len (map f ts) at
-    fault_deep Memory at is same = absurd (cc same)
-    fault_deep (Refused Unexpected) at is same = absurd (cc same)
-    fault_deep (Refused TooDeep) at is same = let here : (f (get_or ts i d)).at ≡ at = cc same in subst (IsBeyond false len (map f ts)) here (turn_deep is)
-    fault_deep (Refused NumberTooWide) at is same = absurd (cc same)
+    pub fault_deep : (opens : List Open) (e : StepError) (at : ℕ) → Refuses e opens → the_fault e (f (get_or ts i d)).at ≡ ParseFault.TooDeep at → IsBeyond false len (map f ts) at
+    fault_deep opens Memory at is same = absurd (cc same)
+    fault_deep opens (Refused Unexpected) at is same = absurd (cc same)
+    fault_deep opens (Refused TooDeep) at is same = let here : (f (get_or ts i d)).at ≡ at = cc same in subst (IsBeyond false len (map f ts)) here (turn_deep is)
+    fault_deep opens (Refused NumberTooWide) at is same = absurd (cc same)
 
-    pub fault_wide : (e : StepError) (at : ℕ) → Refuses e → the_fault e (f (get_or ts i d)).at ≡ ParseFault.NumberTooWide at → IsBeyond true len (map f ts) at
-    fault_wide Memory at is same = absurd (cc same)
-    fault_wide (Refused Unexpected) at is same = absurd (cc same)
-    fault_wide (Refused TooDeep) at is same = absurd (cc same)
-    fault_wide (Refused NumberTooWide) at is same = let here : (f (get_or ts i d)).at ≡ at = cc same in subst (IsBeyond true len (map f ts)) here (turn_wide is)
+    pub fault_wide : (opens : List Open) (e : StepError) (at : ℕ) → Refuses e opens → the_fault e (f (get_or ts i d)).at ≡ ParseFault.NumberTooWide at → IsBeyond true len (map f ts) at
+    fault_wide opens Memory at is same = absurd (cc same)
+    fault_wide opens (Refused Unexpected) at is same = absurd (cc same)
+    fault_wide opens (Refused TooDeep) at is same = absurd (cc same)
+    fault_wide opens (Refused NumberTooWide) at is same = let here : (f (get_or ts i d)).at ≡ at = cc same in subst (IsBeyond true len (map f ts)) here (turn_wide is)
 
-  module _ (len : ℕ) (ts : List T) (s : State) (there : run (step len) start (take (length ts) (map f ts)) ≡ Some s) where
+  module _ (len : ℕ) (ts : List T) (i : ℕ) (s : State) (below : i ≤ length ts) (above : length ts ≤ i) (there : run (step len) start (take i (map f ts)) ≡ Some s) where
     all_read : run (step len) start (map f ts) ≡ Some s
-    all_read = subst (λ ws. run (step len) start ws ≡ Some s) (take_all ts) there
+    all_read =
+        let all : i ≡ length ts = omega arith in
+        subst (λ ws. run (step len) start ws ≡ Some s) (take_all ts) (subst (λ n. run (step len) start (take n (map f ts)) ≡ Some s) all there)
 
     pub ended_whole : (t : Tree) → final_of s ≡ Some t → Spells len (map f ts) t
     ended_whole t ends = whole_there len (map f ts) s t all_read ends
