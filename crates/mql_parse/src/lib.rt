@@ -8,24 +8,22 @@
 //! `mql_expr` for expressions, on `vm_decimal` for numbers and on `vm_base` for lists and texts.
 #![tactic(auto)]
 
-#[cfg(test)]
-mod check_tests;
-#[cfg(test)]
-mod depth_tests;
 mod duration;
 mod fault;
 #[cfg(test)]
-mod fault_tests;
+mod fault_rows;
 mod joining;
 mod laws;
+#[cfg(test)]
+mod limit_tests;
 mod measuring;
 mod naming;
 mod opening;
 mod operand;
-#[cfg(test)]
-mod operator_tests;
 mod parse_fault;
 mod parser;
+#[cfg(test)]
+mod query_rows;
 mod reducing;
 mod stack;
 mod state;

@@ -1,277 +1,210 @@
-//! Texts and their canonical texts, worked out by hand from the grammar and the rules in
-//! `docs/query-language.md`.
+//! What texts come to, against rows that were worked out by hand.
 
+use crate::fault_rows::{CHECKS, FAULTS};
+use crate::query_rows::QUERIES;
 use crate::{ParseFault, parse};
-use mql_expr::{Expr, print};
+use mql_expr::{CheckFault, Expr, check, print};
 use mql_lex::tokens;
-use std::alloc::Global;
+use std::alloc::{AllocError, Global};
 use std::process::Abort;
+use std::test::Fail;
 
 /// The query that a text is.
-pub(crate) fn query(alloc: Global, text: &str) -> Result<Expr, ParseFault> {
+fn query(alloc: Global, text: &str) -> Result<Expr, ParseFault> {
     match tokens(alloc, text) {
         Ok(cut) => parse(alloc, text, cut.as_slice()),
         Err(_) => Err(ParseFault::Memory),
     }
 }
 
-/// The canonical text of a query.
-pub(crate) fn canonical(alloc: Global, text: &str) -> Result<Vec<u8>, ParseFault> {
-    let expr = query(alloc, text)?;
+/// A word and a place.
+fn placed(alloc: Global, word: &str, at: u64) -> Result<Vec<u8>, AllocError> {
+    let text = format!(in alloc; "{word} {at}")?;
+    Vec::from_slice(alloc, text.as_bytes())
+}
+
+fn fault_words(alloc: Global, e: ParseFault) -> Result<Vec<u8>, AllocError> {
+    match e {
+        ParseFault::Unexpected { at } => placed(alloc, "unexpected", at),
+        ParseFault::TooDeep { at } => placed(alloc, "too deep", at),
+        ParseFault::NumberTooWide { at } => placed(alloc, "too wide", at),
+        ParseFault::Memory => Err(AllocError),
+    }
+}
+
+fn canonical(alloc: Global, expr: &Expr) -> Result<Vec<u8>, AllocError> {
     let mut out = Vec::new(alloc);
-    print(&expr, &mut out)?;
+    print(expr, &mut out)?;
     Ok(out)
 }
 
-/// A text reads as a query with this canonical text.
-pub(crate) fn prints(rt: &impl Abort, alloc: Global, text: &str, expected: &str) {
-    match canonical(alloc, text) {
-        Ok(said) => assert!(rt; said.as_slice() == expected.as_bytes(), "{text}"),
-        Err(e) => panic!(rt; "{text}: {e:?}"),
+/// What a text comes to: its canonical text, or its fault.
+fn words(alloc: Global, text: &str) -> Result<Vec<u8>, AllocError> {
+    match query(alloc, text) {
+        Ok(expr) => canonical(alloc, &expr),
+        Err(e) => fault_words(alloc, e),
     }
 }
 
-/// A text reads as a query with this canonical text, which is its own.
-pub(crate) fn reads(rt: &impl Abort, alloc: Global, text: &str, expected: &str) {
-    prints(rt, alloc, text, expected);
-    prints(rt, alloc, expected, expected);
-}
-
-/// Texts, each with its canonical text.
-pub(crate) fn all_read(rt: &impl Abort, alloc: Global, rows: &[(&str, &str)]) {
-    for (text, expected) in rows {
-        reads(rt, alloc, text, expected);
+/// What `check` says of a query.
+fn check_words(alloc: Global, expr: &Expr) -> Result<Vec<u8>, AllocError> {
+    match check(expr) {
+        Ok(()) => Vec::from_slice(alloc, b"right"),
+        Err(CheckFault::UnknownFunction { at }) => placed(alloc, "unknown", at),
+        Err(CheckFault::WrongArguments { at }) => placed(alloc, "wrong", at),
     }
 }
 
-#[test]
-fn numbers(rt: HostRuntime) {
-    let rows = [
-        ("10", "10"),
-        ("007", "7"),
-        (".5", "0.5"),
-        ("5.", "5"),
-        ("1.50", "1.5"),
-        ("1e3", "1000"),
-        ("1E-3", "0.001"),
-        ("1e20", "100000000000000000000"),
-        ("1e21", "1e+21"),
-        ("1e-7", "0.0000001"),
-        ("1e-8", "1e-8"),
-        ("0e99999", "0"),
-        ("1.5e1000", "1.5e+1000"),
-        ("0.1e-999", "1e-1000"),
-        (
-            "12345678901234567890123456789012345678",
-            "1.2345678901234567890123456789012345678e+37",
-        ),
-        ("100000000000000000000000000000000000000", "1e+38"),
-    ];
-    all_read(&rt, rt.alloc(), &rows);
+/// What `check` says of the query that a text is.
+fn checked_words(alloc: Global, text: &str) -> Result<Vec<u8>, AllocError> {
+    match query(alloc, text) {
+        Ok(expr) => check_words(alloc, &expr),
+        Err(e) => fault_words(alloc, e),
+    }
+}
+
+/// A text comes to what is expected of it.
+pub(crate) fn comes_to(
+    rt: &impl Abort,
+    alloc: Global,
+    text: &str,
+    expected: &str,
+) -> Result<(), AllocError> {
+    let found = words(alloc, text)?;
+    assert!(rt; found.as_slice() == expected.as_bytes(), "{text}");
+    Ok(())
+}
+
+/// A text has a canonical text, which is its own.
+pub(crate) fn reads(
+    rt: &impl Abort,
+    alloc: Global,
+    text: &str,
+    expected: &str,
+) -> Result<(), AllocError> {
+    comes_to(rt, alloc, text, expected)?;
+    comes_to(rt, alloc, expected, expected)
+}
+
+pub(crate) fn checks(
+    rt: &impl Abort,
+    alloc: Global,
+    text: &str,
+    expected: &str,
+) -> Result<(), AllocError> {
+    let found = checked_words(alloc, text)?;
+    assert!(rt; found.as_slice() == expected.as_bytes(), "{text}");
+    Ok(())
 }
 
 #[test]
-fn strings(rt: HostRuntime) {
-    let rows = [
-        ("\"a\"", "\"a\""),
-        ("'a'", "\"a\""),
-        ("''", "\"\""),
-        ("'say \"a\"'", "\"say \\\"a\\\"\""),
-        ("\"it's\"", "\"it's\""),
-        ("'it\\'s'", "\"it's\""),
-        ("\"it\\'s\"", "\"it's\""),
-        ("'\\\"'", "\"\\\"\""),
-        ("'\\\\'", "\"\\\\\""),
-        ("'a\\nb'", "\"a\\nb\""),
-        ("'a\nb'", "\"a\\nb\""),
-        ("'a\\tb'", "\"a\tb\""),
-        ("\"a\tb\"", "\"a\tb\""),
-        ("'é # no comment'", "\"é # no comment\""),
-    ];
-    all_read(&rt, rt.alloc(), &rows);
+fn queries(rt: HostRuntime) -> Result<(), Fail> {
+    let mut count = 0u32;
+    for row in QUERIES.lines() {
+        if let Some((text, expected)) = row.split_once(" => ") {
+            reads(&rt, rt.alloc(), text, expected)?;
+            count = count.saturating_add(1);
+        }
+    }
+    assert_eq!(rt; count, 180);
+    Ok(())
 }
 
 #[test]
-fn selectors(rt: HostRuntime) {
-    let rows = [
-        ("up", "up"),
-        ("job:x:rate5m", "job:x:rate5m"),
-        ("_x ", "_x"),
-        ("{}", "{}"),
-        ("x{}", "x{}"),
-        ("x { }", "x{}"),
-        ("{a='1'}", "{a=\"1\"}"),
-        ("{a=\"1\",}", "{a=\"1\"}"),
-        (
-            "{a = \"1\", b != \"2\", c =~ \"3\", d !~ \"4\"}",
-            "{a=\"1\",b!=\"2\",c=~\"3\",d!~\"4\"}",
-        ),
-        (
-            "{a=\"1\" or b=\"2\", OR c=\"3\"}",
-            "{a=\"1\" or b=\"2\" or c=\"3\"}",
-        ),
-        ("x{a=\"1\", or b=\"2\"}", "x{a=\"1\" or b=\"2\"}"),
-        ("x{a=\"1\", or=\"2\"}", "x{a=\"1\",or=\"2\"}"),
-        ("{or=\"1\" or or=\"2\"}", "{or=\"1\" or or=\"2\"}"),
-        ("{By=\"1\", with!=\"2\"}", "{By=\"1\",with!=\"2\"}"),
-        ("x{f, a=\"1\", g}", "x{f,a=\"1\",g}"),
-        ("{f}", "{f}"),
-        ("{__name__=\"up\"}", "{__name__=\"up\"}"),
-    ];
-    all_read(&rt, rt.alloc(), &rows);
+fn faults(rt: HostRuntime) -> Result<(), Fail> {
+    let mut count = 0u32;
+    for row in FAULTS.lines() {
+        if let Some((text, expected)) = row.split_once(" => ") {
+            comes_to(&rt, rt.alloc(), text, expected)?;
+            count = count.saturating_add(1);
+        }
+    }
+    assert_eq!(rt; count, 146);
+    Ok(())
 }
 
 #[test]
-fn windows_and_offsets(rt: HostRuntime) {
-    let rows = [
-        ("a[5m]", "a[5m]"),
-        ("a [ 5m ]", "a[5m]"),
-        ("a[1h30m]", "a[90m]"),
-        ("a[5i]", "a[5i]"),
-        ("a[1d2i]", "a[1d2i]"),
-        ("a[2i1s3i]", "a[1s5i]"),
-        ("a[1w]", "a[7d]"),
-        ("a[1y]", "a[365d]"),
-        ("a[24h]", "a[1d]"),
-        ("a[60s]", "a[1m]"),
-        ("a[90s]", "a[90s]"),
-        ("a[1500ms]", "a[1500ms]"),
-        ("a[1m1ms]", "a[60001ms]"),
-        ("a[0s]", "a[0s]"),
-        ("a[0i]", "a[0s]"),
-        ("a[000000000000000000000000000001m]", "a[1m]"),
-        (
-            "a[281474976710655ms281474976710655i]",
-            "a[281474976710655ms281474976710655i]",
-        ),
-        ("a offset 5m", "a offset 5m"),
-        ("a OFFSET - 5m", "a offset -5m"),
-        ("a offset -1h3i", "a offset -1h3i"),
-        ("a offset -0s", "a offset 0s"),
-        ("a[5m] offset 1d", "a[5m] offset 1d"),
-    ];
-    all_read(&rt, rt.alloc(), &rows);
+fn faults_of_queries(rt: HostRuntime) -> Result<(), Fail> {
+    let mut count = 0u32;
+    for row in CHECKS.lines() {
+        if let Some((text, expected)) = row.split_once(" => ") {
+            checks(&rt, rt.alloc(), text, expected)?;
+            count = count.saturating_add(1);
+        }
+    }
+    assert_eq!(rt; count, 125);
+    Ok(())
+}
+
+/// Queries without a fault are in canonical form in the rows.
+#[test]
+fn right_queries(rt: HostRuntime) -> Result<(), Fail> {
+    for row in CHECKS.lines() {
+        if let Some((text, "right")) = row.split_once(" => ") {
+            comes_to(&rt, rt.alloc(), text, text)?;
+        }
+    }
+    Ok(())
 }
 
 #[test]
-fn what_a_window_stands_on(rt: HostRuntime) {
-    let rows = [
-        ("(a)[5m]", "a[5m]"),
-        ("(a[5m])[1h]", "(a[5m])[1h]"),
-        ("(a[5m]) offset 1h", "(a[5m]) offset 1h"),
-        ("(a + b)[5m]", "(a + b)[5m]"),
-        ("a + b[5m]", "a + b[5m]"),
-        ("-a[5m]", "-a[5m]"),
-        ("(-a)[5m]", "(-a)[5m]"),
-        ("x{}[5m]", "x{}[5m]"),
-        ("f(a)[5m] offset 1m", "f(a)[5m] offset 1m"),
-        ("5[5m]", "5[5m]"),
-        ("\"x\"[5m]", "\"x\"[5m]"),
-        (
-            "sum(a) by (x) keep_metric_names[5m]",
-            "sum(a) by (x) keep_metric_names[5m]",
-        ),
-    ];
-    all_read(&rt, rt.alloc(), &rows);
+fn blanks_and_comments(rt: HostRuntime) -> Result<(), Fail> {
+    let alloc = rt.alloc();
+    reads(&rt, alloc, "\r\n\ta\t+\r\nb \n", "a + b")?;
+    reads(&rt, alloc, "a # b\n+ c", "a + c")?;
+    reads(&rt, alloc, "sum(# all\na)", "sum(a)")?;
+    comes_to(&rt, alloc, "", "unexpected 0")?;
+    comes_to(&rt, alloc, "a + ", "unexpected 4")?;
+    Ok(())
 }
 
 #[test]
-fn calls(rt: HostRuntime) {
-    let rows = [
-        ("f()", "f()"),
-        ("f(a)", "f(a)"),
-        ("f(1, (2),)", "f(1, 2)"),
-        ("Foo(Bar(a))", "Foo(Bar(a))"),
-        ("SUM(Rate(a[5m]))", "sum(rate(a[5m]))"),
-        ("sum by (x) (a)", "sum(a) by (x)"),
-        ("sum(a) BY(x, y,)", "sum(a) by (x,y)"),
-        ("sum Without () (a)", "sum(a) without ()"),
-        ("sum by (x) (a) without (y)", "sum by (x) (a) without (y)"),
-        ("sum(a) by (by, OR)", "sum(a) by (by,OR)"),
-        (
-            "sum by (x) (sum(a) by (x, y))",
-            "sum(sum(a) by (x,y)) by (x)",
-        ),
-        (
-            "rate(a[5m]) Keep_Metric_Names",
-            "rate(a[5m]) keep_metric_names",
-        ),
-        (
-            "sum by (x) (a) keep_metric_names",
-            "sum(a) by (x) keep_metric_names",
-        ),
-        ("topk(3, a default b)", "topk(3, a default b)"),
-        ("f((a), -b, \"c\")", "f(a, -b, \"c\")"),
-    ];
-    all_read(&rt, rt.alloc(), &rows);
+fn line_feeds_and_tabs_in_strings(rt: HostRuntime) -> Result<(), Fail> {
+    let alloc = rt.alloc();
+    reads(&rt, alloc, "'a\nb'", "\"a\\nb\"")?;
+    reads(&rt, alloc, "'a\\tb'", "\"a\tb\"")?;
+    reads(&rt, alloc, "\"a\tb\"", "\"a\tb\"")?;
+    Ok(())
+}
+
+const OPERATORS: &str = "default if ifnot or and unless == != <= >= < > + - * / %";
+
+const COMPARISONS: &str = "== != <= >= < >";
+
+/// What may stand behind any operator, in canonical form.
+const MODIFIERS: &str = "
+on()
+on(x)
+on(x,y)
+ignoring(x)
+on(x) group_left()
+ignoring(x) group_left(y,z)
+ignoring() group_right()
+on(x) group_right(y)";
+
+fn modified(rt: &impl Abort, alloc: Global, operator: &str) -> Result<(), AllocError> {
+    for modifier in MODIFIERS.lines() {
+        let blank = if modifier.is_empty() { "" } else { " " };
+        let text = format!(in alloc; "a {operator}{blank}{modifier} b")?;
+        comes_to(rt, alloc, text.as_str(), text.as_str())?;
+    }
+    Ok(())
 }
 
 #[test]
-fn templates(rt: HostRuntime) {
-    let rows = [
-        ("with () a", "WITH () a"),
-        ("with (x = 1) x", "WITH (x = 1) x"),
-        ("With (x = 1,) x + 1", "WITH (x = 1) x + 1"),
-        ("with (f() = 1) f", "WITH (f = 1) f"),
-        (
-            "with (f(a, b) = a / b, y = 2) f(y, 3)",
-            "WITH (f(a,b) = a / b, y = 2) f(y, 3)",
-        ),
-        ("1 + with (x = 2) x", "1 + (WITH (x = 2) x)"),
-        ("(with (x = 2) x) + 1", "(WITH (x = 2) x) + 1"),
-        ("(with (x = a) x)[5m]", "(WITH (x = a) x)[5m]"),
-        ("with (x = a) x[5m]", "WITH (x = a) x[5m]"),
-        (
-            "with (x = with (y = 1) y) x",
-            "WITH (x = (WITH (y = 1) y)) x",
-        ),
-        (
-            "with (x = 1) with (y = 2) x + y",
-            "WITH (x = 1) (WITH (y = 2) x + y)",
-        ),
-        ("f(with (x = 1) x)", "f((WITH (x = 1) x))"),
-        ("-with (x = 1) x * 2", "-(WITH (x = 1) x * 2)"),
-        (
-            "with (x = {a=\"1\"}) {x, b=\"2\"}",
-            "WITH (x = {a=\"1\"}) {x,b=\"2\"}",
-        ),
-        (
-            "a default with (x = 1) x default b",
-            "a default (WITH (x = 1) x default b)",
-        ),
-    ];
-    all_read(&rt, rt.alloc(), &rows);
+fn each_operator_with_each_modifier(rt: HostRuntime) -> Result<(), Fail> {
+    for operator in OPERATORS.split(' ') {
+        modified(&rt, rt.alloc(), operator)?;
+    }
+    Ok(())
 }
 
 #[test]
-fn blanks_and_comments(rt: HostRuntime) {
-    let rows = [
-        ("a # b\n+ c", "a + c"),
-        ("# first\na", "a"),
-        ("a#", "a"),
-        ("\r\n\ta\t+\r\nb \n", "a + b"),
-        ("sum(# all\na)", "sum(a)"),
-        ("a+b*c", "a + b * c"),
-    ];
-    all_read(&rt, rt.alloc(), &rows);
-}
-
-#[test]
-fn reserved_words_in_any_case(rt: HostRuntime) {
-    let rows = [
-        ("a DEFAULT b", "a default b"),
-        ("a If b IFNOT c", "a if b ifnot c"),
-        ("a OR b", "a or b"),
-        ("a And b", "a and b"),
-        ("a Unless b", "a unless b"),
-        ("a == Bool b", "a == bool b"),
-        ("a + ON(x) GROUP_LEFT b", "a + on(x) group_left() b"),
-        (
-            "a + Ignoring(x) Group_Right(with) b",
-            "a + ignoring(x) group_right(with) b",
-        ),
-        ("a + on(on, With) b", "a + on(on,With) b"),
-        ("defaults or ons and bools", "defaults or ons and bools"),
-    ];
-    all_read(&rt, rt.alloc(), &rows);
+fn each_comparison_with_bool_and_each_modifier(rt: HostRuntime) -> Result<(), Fail> {
+    let alloc = rt.alloc();
+    for operator in COMPARISONS.split(' ') {
+        let compared = format!(in alloc; "{operator} bool")?;
+        modified(&rt, alloc, compared.as_str())?;
+    }
+    Ok(())
 }
