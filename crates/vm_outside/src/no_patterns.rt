@@ -1,4 +1,4 @@
-ghost use Rattle.std.specs.Prelude.{◌≡◌, false, Ok, None, IsErrOf};
+ghost use Rattle.std.specs.Prelude.{◌≡◌, IsErrOf};
 ghost use Rattle.vm_outside.specs.Outside.{raised};
 
 use crate::{Pattern, PatternFault, Patterns};
@@ -36,20 +36,20 @@ impl Patterns for NoPatterns {
     }
 }
 
-/// The pattern that `NoPatterns` never builds: it matches no value.
+/// The pattern that `NoPatterns` never builds: there is none.
 #[derive(Debug, Drop)]
-pub struct NoPattern;
+pub enum NoPattern {}
 
 impl Pattern for NoPattern {
-    fn whole(&mut self, _value: &str) -> Result<bool, AllocError>
-        ensures { result ≡ Ok false }
-    {
-        Ok(false)
+    ghost use Rattle.std.specs.Prelude.{[]};
+
+    ghost text = { λ pattern. [] };
+
+    fn whole(&mut self, _value: &str) -> Result<bool, AllocError> {
+        match *self {}
     }
 
-    fn groups(&mut self, _value: &str) -> Result<Option<List<Text>>, AllocError>
-        ensures { result ≡ Ok None }
-    {
-        Ok(None)
+    fn groups(&mut self, _value: &str) -> Result<Option<List<Text>>, AllocError> {
+        match *self {}
     }
 }
