@@ -3,5 +3,6 @@ mod FaultLaws
 mod NamesLaws
 pub mod PartedLaws
 pub mod PrintedWords
+pub mod SpanTexts
 mod TreeLaws
 pub mod WordTexts

@@ -35,8 +35,8 @@ is_wide (Err NumberTooWide) = true
 is_wide _ = false
 
 fits_not_wide : (within test : Bool) (s : State) → test ≡ true → is_wide (only (fits within test) NumberTooWide s) ≡ false
-fits_not_wide true test s yes = ap (λ t. is_wide (only t NumberTooWide s)) yes
-fits_not_wide false test s yes = refl
+fits_not_wide true test s holds = ap (λ t. is_wide (only t NumberTooWide s)) holds
+fits_not_wide false test s holds = refl
 
 part_not_wide : {S V : Type 0} (into : S → State) (off : V → State) (o : Option (Progress S V)) → is_wide (within_part into off o) ≡ false
 part_not_wide into off None = refl
@@ -45,27 +45,27 @@ part_not_wide into off (Some (Done v)) = refl
 
 module _ (len : ℕ) (w : Word) where
   numeral_wanted : (fs : List Frame) → is_some (number_of w.text) ≡ true → is_wide (by_wanted len fs w Class.Numeral) ≡ false
-  numeral_wanted fs yes = fits_not_wide (nat_lt w.at len) (is_some (number_of w.text)) _ yes
+  numeral_wanted fs holds = fits_not_wide (nat_lt w.at len) (is_some (number_of w.text)) _ holds
 
   numeral_fits : (fs : List Frame) (b : Before) → is_some (number_of w.text) ≡ true → is_wide (by len fs b w Class.Numeral) ≡ false
-  numeral_fits fs wanted yes = numeral_wanted fs yes
-  numeral_fits fs (operated j) yes = numeral_wanted _ yes
-  numeral_fits fs (compared j) yes = numeral_wanted _ yes
-  numeral_fits fs (matched j kind names) yes = numeral_wanted _ yes
-  numeral_fits fs (many_read j kind names side) yes = numeral_wanted _ yes
-  numeral_fits fs (in_names p s) yes = part_not_wide _ _ _
-  numeral_fits fs (in_braces place name s) yes = part_not_wide _ _ _
-  numeral_fits fs (in_params s h state) yes = part_not_wide _ _ _
-  numeral_fits fs _ yes = refl
+  numeral_fits fs wanted holds = numeral_wanted fs holds
+  numeral_fits fs (operated j) holds = numeral_wanted _ holds
+  numeral_fits fs (compared j) holds = numeral_wanted _ holds
+  numeral_fits fs (matched j kind names) holds = numeral_wanted _ holds
+  numeral_fits fs (many_read j kind names side) holds = numeral_wanted _ holds
+  numeral_fits fs (in_names p s) holds = part_not_wide _ _ _
+  numeral_fits fs (in_braces place name s) holds = part_not_wide _ _ _
+  numeral_fits fs (in_params s h state) holds = part_not_wide _ _ _
+  numeral_fits fs _ holds = refl
 
   time_fits : (fs : List Frame) (b : Before) → is_short (length_of w.text) ≡ true → is_wide (by len fs b w Class.Time) ≡ false
-  time_fits fs (window_wanted place t) yes = fits_not_wide (nat_lt w.at len) (is_short (length_of w.text)) _ yes
-  time_fits fs (offset_wanted place t window) yes = fits_not_wide (nat_lt w.at len) (is_short (length_of w.text)) _ yes
-  time_fits fs (offset_back place t window) yes = fits_not_wide (nat_lt w.at len) (is_short (length_of w.text)) _ yes
-  time_fits fs (in_names p s) yes = part_not_wide _ _ _
-  time_fits fs (in_braces place name s) yes = part_not_wide _ _ _
-  time_fits fs (in_params s h state) yes = part_not_wide _ _ _
-  time_fits fs _ yes = refl
+  time_fits fs (window_wanted place t) holds = fits_not_wide (nat_lt w.at len) (is_short (length_of w.text)) _ holds
+  time_fits fs (offset_wanted place t window) holds = fits_not_wide (nat_lt w.at len) (is_short (length_of w.text)) _ holds
+  time_fits fs (offset_back place t window) holds = fits_not_wide (nat_lt w.at len) (is_short (length_of w.text)) _ holds
+  time_fits fs (in_names p s) holds = part_not_wide _ _ _
+  time_fits fs (in_braces place name s) holds = part_not_wide _ _ _
+  time_fits fs (in_params s h state) holds = part_not_wide _ _ _
+  time_fits fs _ holds = refl
 
 abbrev no_measure : Class → Bool
 no_measure Class.Numeral = false
@@ -73,9 +73,9 @@ no_measure Class.Time = false
 no_measure _ = true
 
 measures_not : (c : Class) → no_measure c ≡ true → is_measure c ≡ true → ⊥
-measures_not Class.Numeral no is = cc no
-measures_not Class.Time no is = cc no
-measures_not _ no is = cc is
+measures_not Class.Numeral apart is = cc apart
+measures_not Class.Time apart is = cc apart
+measures_not _ apart is = cc is
 
 measure_fits : (len : ℕ) (fs : List Frame) (b : Before) (w : Word) → WordFits w → is_measure (class_of_word w) ≡ true
     → is_wide (by len fs b w (class_of_word w)) ≡ false

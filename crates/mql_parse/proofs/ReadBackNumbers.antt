@@ -6,7 +6,7 @@ use Rattle.std.specs.Ordering.{int_eq}
 use Rattle.std.proofs.Common.{refl, ap, sym, subst, ◌∙◌, arith}
 use Rattle.std.proofs.Math.IntN.{pos-*ℤ-pos}
 use Rattle.std.proofs.lemmas.Bool.Decides.{nat_tests}
-use Rattle.vm_base.specs.Number.{form_of, scaled, signed, stripped}
+use Rattle.vm_base.specs.Number.{Form, form_of, scaled, signed, stripped}
 use Rattle.vm_decimal.specs.Dec.{is_dec, in_range, dec_of}
 use Rattle.vm_decimal.specs.DecText.{dec_reading, dec_value, SaysNumber}
 use Rattle.vm_decimal.specs.Spelled.{Spelled, IsNumber as IsNumberText, IsSign}
@@ -24,15 +24,20 @@ some_is x y is = ap (λ (o : Option ℤ). elim o [ None ↦ x | Some z ↦ z ]) 
 not_below : (n : ℕ) → is_negative (pos n) ≡ false
 not_below n = grind (arith, nat_tests)
 
+abbrev bare_form : Bool → ℕ → Form
+bare_form nothing n =
+    if nothing then record { negative = false; size = 0; shift = 1000 }
+    else record {
+      negative = is_negative (pos n);
+      size = (stripped 2001 (unsigned_abs (pos n))).0;
+      shift = (stripped 2001 (unsigned_abs (pos n))).1;
+    }
+
 form_plus : (n : ℕ) → (form_of (pos n)).negative ≡ false
 unfolding form_of
 form_plus n = go (unsigned_abs (pos n) == 0)
   where
-    go : (b : Bool) → (if b then record { negative = false; size = 0; shift = 1000 } else record {
-      negative = is_negative (pos n);
-      size = (stripped 2001 (unsigned_abs (pos n))).0;
-      shift = (stripped 2001 (unsigned_abs (pos n))).1;
-    }).negative ≡ false
+    go : (b : Bool) → (bare_form b n).negative ≡ false
     go true = refl
     go false = not_below n
 
@@ -46,16 +51,16 @@ in_range_says y z is = go (is_dec y) refl is
 plus_in_range : (n : ℕ) (z : ℤ) → in_range (pos n) ≡ Some z → IsNumber z
 plus_in_range n z is = let says = in_range_says (pos n) z is in subst IsNumber says.0 (says.1, form_plus n)
 
+abbrev tens_of : ℤ → ℕ
+tens_of e = 10 ^ unsigned_abs (e +ℤ pos 1000)
+
 plus_number : (n : ℕ) (e z : ℤ) → dec_of (pos n) e ≡ Some z → IsNumber z
 unfolding dec_of
-plus_number n e z is = go (int_le (pos 0) (e +ℤ pos 1000)) (int_eq (int_rem (pos n) tens) (pos 0)) is
+plus_number n e z is = go (int_le (pos 0) (e +ℤ pos 1000)) (int_eq (int_rem (pos n) (pos (tens_of e))) (pos 0)) is
   where
-    abbrev tens : ℤ
-    tens = pos (10 ^ unsigned_abs (e +ℤ pos 1000))
-
     go : (up whole : Bool)
-        → option_and_then in_range (if up then Some (pos n *ℤ tens) else (if whole then Some (int_div (pos n) tens) else None)) ≡ Some z → IsNumber z
-    go true whole is = plus_in_range (n * 10 ^ unsigned_abs (e +ℤ pos 1000)) z (ap in_range (sym (pos-*ℤ-pos n (10 ^ unsigned_abs (e +ℤ pos 1000)))) ∙ is)
+        → option_and_then in_range (if up then Some (pos n *ℤ pos (tens_of e)) else (if whole then Some (int_div (pos n) (pos (tens_of e))) else None)) ≡ Some z → IsNumber z
+    go true whole is = plus_in_range (n * 10 ^ unsigned_abs (e +ℤ pos 1000)) z (ap in_range (sym (pos-*ℤ-pos n (tens_of e))) ∙ is)
     go false true is = plus_in_range (n / 10 ^ unsigned_abs (e +ℤ pos 1000)) z is
     go false false is = absurd (cc is)
 

@@ -91,11 +91,11 @@ real_class Str text = refl
 real_class Mark text = mark_class no_phantom text refl refl
 
 numeral_kind : (kind : TokenKind) (text : List ℕ) → class_of_kind kind text ≡ Class.Numeral → kind ≡ Number
-numeral_kind Name text is = let no = name_class no_numeral text refl refl in absurd (cc (ap no_numeral is, no))
+numeral_kind Name text is = let apart = name_class no_numeral text refl refl in absurd (cc (ap no_numeral is, apart))
 numeral_kind Number text is = refl
 numeral_kind Duration text is = absurd (cc is)
 numeral_kind Str text is = absurd (cc is)
-numeral_kind Mark text is = let no = mark_class no_numeral text refl refl in absurd (cc (ap no_numeral is, no))
+numeral_kind Mark text is = let apart = mark_class no_numeral text refl refl in absurd (cc (ap no_numeral is, apart))
 
 items_of : (items : List Item) → HasItems items → AllByRecursion IsItem items
 items_of [] has = absurd has
@@ -262,7 +262,7 @@ module _ {len : ℕ} where
   truth_said : {op : Op} {text rest : List Word} {truth : Bool} → TruthIfAny op text rest truth → AllFine len text
       → AllFine len rest × (truth ≡ true → is_comparison op ≡ true)
   truth_said no_truth fine = (fine, λ is. absurd (cc is))
-  truth_said (a_truth w is compares) fine = (fine.1, λ yes. compares)
+  truth_said (a_truth w is compares) fine = (fine.1, λ holds. compares)
 
   many_said : {text rest : List Word} {many : Many} {extra : List (List ℕ)} → ManyIfAny text rest many extra → AllFine len text → ManySaid len rest many extra
   many_said no_many fine = record { fine = fine; names = tt; many_is = refl }

@@ -4,14 +4,15 @@ use Rattle.std.specs.Char.{is_ascii_digit, digit_value}
 use Rattle.std.specs.Fmt.{decimal}
 use Rattle.std.specs.Str.Parse.{digits_value, digits_value_after}
 use Rattle.std.proofs.Common.{refl, ap, sym, ◌∙◌, append_assoc, append-nil, arith}
+use Rattle.std.proofs.Math.Nat.{zero-mul}
 use Rattle.std.proofs.lemmas.Bool.{eqb-true, and_parts}
 use Rattle.std.proofs.lemmas.Bool.Decides.{nat_tests}
+use Rattle.std.proofs.lemmas.Int.{ints}
 use Rattle.vm_decimal.specs.Spelled.{IsDigits}
 use Rattle.vm_decimal.proofs.PrintedTexts.{Decimal, decimal_of}
 use Rattle.mql_lex.specs.declared.span.Span.{Span}
-use Rattle.mql_expr.specs.Spans.{unit_ms, unit_text, is_whole, greatest_unit, count_text, ms_text, size_text, span_text, is_negative}
-use Rattle.mql_expr.specs.declared.span_text.Unit.{Unit as UnitOf}
-use Rattle.mql_expr.specs.declared.span_text.Unit.TheVariants.{Day, Hour, Minute, Second, Millisecond}
+use Rattle.mql_expr.specs.Spans.{count_text, ms_text, size_text, span_text, is_negative}
+use Rattle.mql_expr.proofs.SpanTexts.{IsUnit, days, hours, minutes, seconds, milliseconds, ms_counted}
 use Rattle.mql_parse.specs.Values.{Length, some_ms, begins_with, unit_at, times, plus, length_behind, length_of, is_short, ahead, back}
 
 abbrev len : ℕ → ℕ → Length
@@ -39,15 +40,18 @@ behind_number n rest few =
 
 -- ---- units
 
-unit_says : (n : ℕ) (unit : UnitOf) (rest : List ℕ) → begins_with 115 rest ≡ false
-    → length_behind n (unit_text unit ++ rest) ≡ plus (len (n * unit_ms unit) 0) (length_behind 0 rest)
-unit_says n Day rest no = same_len (n * 86400000 + (length_behind 0 rest).ms) (n * 86400000 + (length_behind 0 rest).ms) (n * 0 + (length_behind 0 rest).steps) (0 + (length_behind 0 rest).steps) refl (omega arith)
-unit_says n Hour rest no = same_len (n * 3600000 + (length_behind 0 rest).ms) (n * 3600000 + (length_behind 0 rest).ms) (n * 0 + (length_behind 0 rest).steps) (0 + (length_behind 0 rest).steps) refl (omega arith)
-unit_says n Minute rest no =
-    ap (λ (b : Bool). plus (times n (some_ms (if b then 1 else 60000))) (length_behind 0 rest)) no
-    ∙ same_len (n * 60000 + (length_behind 0 rest).ms) (n * 60000 + (length_behind 0 rest).ms) (n * 0 + (length_behind 0 rest).steps) (0 + (length_behind 0 rest).steps) refl (omega arith)
-unit_says n Second rest no = same_len (n * 1000 + (length_behind 0 rest).ms) (n * 1000 + (length_behind 0 rest).ms) (n * 0 + (length_behind 0 rest).steps) (0 + (length_behind 0 rest).steps) refl (omega arith)
-unit_says n Millisecond rest no =
+none_of : (n : ℕ) → n * 0 ≡ 0
+none_of n = omega arith
+
+unit_says : (n size : ℕ) (unit rest : List ℕ) → IsUnit unit size → begins_with 115 rest ≡ false
+    → length_behind n (unit ++ rest) ≡ plus (len (n * size) 0) (length_behind 0 rest)
+unit_says n size unit rest days apart = ap (λ k. len (n * 86400000 + (length_behind 0 rest).ms) (k + (length_behind 0 rest).steps)) (none_of n)
+unit_says n size unit rest hours apart = ap (λ k. len (n * 3600000 + (length_behind 0 rest).ms) (k + (length_behind 0 rest).steps)) (none_of n)
+unit_says n size unit rest minutes apart =
+    ap (λ (b : Bool). plus (times n (some_ms (if b then 1 else 60000))) (length_behind 0 rest)) apart
+    ∙ ap (λ k. len (n * 60000 + (length_behind 0 rest).ms) (k + (length_behind 0 rest).steps)) (none_of n)
+unit_says n size unit rest seconds apart = ap (λ k. len (n * 1000 + (length_behind 0 rest).ms) (k + (length_behind 0 rest).steps)) (none_of n)
+unit_says n size unit rest milliseconds apart =
     same_len (n * 1 + (0 * 1000 + (length_behind 0 rest).ms)) (n * 1 + (length_behind 0 rest).ms) (n * 0 + (0 * 0 + (length_behind 0 rest).steps)) (0 + (length_behind 0 rest).steps)
     (omega arith) (omega arith)
 
@@ -74,48 +78,34 @@ steps_no_mark steps few = go (steps == 0)
 
 -- ---- milliseconds
 
-whole_of : (ms : ℕ) (unit : UnitOf) → is_whole ms unit ≡ true → ms % unit_ms unit ≡ 0
-whole_of ms unit is = eqb-true (ms % unit_ms unit) 0 is
+few_units : (count size ms : ℕ) (unit : List ℕ) → IsUnit unit size → count * size ≡ ms → ms < 2 ^ 64 → count < 2 ^ 64
+few_units count size ms unit days whole few = omega arith
+few_units count size ms unit hours whole few = omega arith
+few_units count size ms unit minutes whole few = omega arith
+few_units count size ms unit seconds whole few = omega arith
+few_units count size ms unit milliseconds whole few = omega arith
 
-parted_whole : (ms : ℕ) → (ms / unit_ms (greatest_unit ms)) * unit_ms (greatest_unit ms) ≡ ms
-parted_whole ms = go (is_whole ms Day) (is_whole ms Hour) (is_whole ms Minute) (is_whole ms Second) refl refl refl refl
-  where
-    abbrev chosen : (d h m s : Bool) → UnitOf
-    chosen d h m s = if d then Day else if h then Hour else if m then Minute else if s then Second else Millisecond
-
-    go : (d h m s : Bool) → is_whole ms Day ≡ d → is_whole ms Hour ≡ h → is_whole ms Minute ≡ m → is_whole ms Second ≡ s
-        → (ms / unit_ms (chosen d h m s)) * unit_ms (chosen d h m s) ≡ ms
-    go true h m s p q r t = let z : ms % 86400000 ≡ 0 = whole_of ms Day p in omega arith
-    go false true m s p q r t = let z : ms % 3600000 ≡ 0 = whole_of ms Hour q in omega arith
-    go false false true s p q r t = let z : ms % 60000 ≡ 0 = whole_of ms Minute r in omega arith
-    go false false false true p q r t = let z : ms % 1000 ≡ 0 = whole_of ms Second t in omega arith
-    go false false false false p q r t = omega arith
-
-few_units : (ms : ℕ) (unit : UnitOf) → ms < 2 ^ 64 → ms / unit_ms unit < 2 ^ 64
-few_units ms Day few = omega arith
-few_units ms Hour few = omega arith
-few_units ms Minute few = omega arith
-few_units ms Second few = omega arith
-few_units ms Millisecond few = omega arith
-
-counted : (count : ℕ) (unit : UnitOf) (rest : List ℕ) → count < 2 ^ 64 → begins_with 115 rest ≡ false
-    → length_behind 0 (count_text count (unit_text unit) ++ rest) ≡ plus (len (count * unit_ms unit) 0) (length_behind 0 rest)
-counted count unit rest few no = go (count == 0) refl
+counted : (count size : ℕ) (unit rest : List ℕ) → IsUnit unit size → count < 2 ^ 64 → begins_with 115 rest ≡ false
+    → length_behind 0 (count_text count unit ++ rest) ≡ plus (len (count * size) 0) (length_behind 0 rest)
+counted count size unit rest is_unit few apart = go (count == 0) refl
   where
     go : (b : Bool) → (count == 0) ≡ b
-        → length_behind 0 ((if b then [] else decimal count ++ unit_text unit) ++ rest) ≡ plus (len (count * unit_ms unit) 0) (length_behind 0 rest)
+        → length_behind 0 ((if b then [] else decimal count ++ unit) ++ rest) ≡ plus (len (count * size) 0) (length_behind 0 rest)
     go true is =
         let none : count ≡ 0 = eqb-true count 0 is in
-        same_len (length_behind 0 rest).ms (count * unit_ms unit + (length_behind 0 rest).ms) (length_behind 0 rest).steps (0 + (length_behind 0 rest).steps)
-        (rw none (omega arith)) (omega arith)
+        let nothing : count * size ≡ 0 = ap (λ n. n * size) none ∙ zero-mul size in
+        same_len (length_behind 0 rest).ms (count * size + (length_behind 0 rest).ms) (length_behind 0 rest).steps (0 + (length_behind 0 rest).steps)
+        (omega (arith, nothing)) (omega arith)
     go false is =
-        ap (length_behind 0) (append_assoc (decimal count) (unit_text unit) rest) ∙ behind_number count (unit_text unit ++ rest) few ∙ unit_says count unit rest no
+        ap (length_behind 0) (append_assoc (decimal count) unit rest) ∙ behind_number count (unit ++ rest) few ∙ unit_says count size unit rest is_unit apart
 
 ms_say : (ms : ℕ) (rest : List ℕ) → ms < 2 ^ 64 → begins_with 115 rest ≡ false
     → length_behind 0 (ms_text ms ++ rest) ≡ plus (len ms 0) (length_behind 0 rest)
-ms_say ms rest few no =
-    let unit = greatest_unit ms in
-    counted (ms / unit_ms unit) unit rest (few_units ms unit few) no ∙ ap (λ n. plus (len n 0) (length_behind 0 rest)) (parted_whole ms)
+ms_say ms rest few apart =
+    let c = ms_counted ms in
+    ap (λ t. length_behind 0 (t ++ rest)) c.text
+    ∙ counted c.count c.size c.unit rest c.is (few_units c.count c.size ms c.unit c.is c.whole few) apart
+    ∙ ap (λ n. plus (len n 0) (length_behind 0 rest)) c.whole
 
 -- ---- both
 
@@ -145,7 +135,7 @@ below n = grind (arith, nat_tests)
 
 pub size_back : (n : ℕ) → unsigned_abs (pos 0 -ℤ pos n) ≡ n
 size_back zero = refl
-size_back (suc n) = omega arith
+size_back (suc n) = first_of (grind (arith, nat_tests), first_of (omega (arith, ints), grind (arith, ints)))
 
 pub short_ms : (l : Length) → is_short l ≡ true → l.ms < 2 ^ 64
 short_ms l short = let part = and_parts (nat_lt l.ms (2 ^ 48)) (nat_lt l.steps (2 ^ 48)) short in let is : nat_lt l.ms (2 ^ 48) ≡ true = part.0 in grind (arith, nat_tests)
@@ -168,9 +158,9 @@ back_says l short =
 
 -- a span that goes back and has no sign is nothing
 pub back_sign : (l : Length) → is_negative (back l) ≡ false → l ≡ len 0 0
-back_sign l no = go l.ms l.steps no
+back_sign l apart = go l.ms l.steps apart
   where
     go : (ms steps : ℕ) → is_negative (back (len ms steps)) ≡ false → len ms steps ≡ len 0 0
     go zero zero is = refl
-    go zero (suc n) is = let yes : is_negative (back (len 0 (suc n))) ≡ true = ap (λ b. int_lt (pos 0 -ℤ pos 0) (pos 0) || b) (below n) in absurd (cc (is, yes))
-    go (suc m) steps is = let yes : is_negative (back (len (suc m) steps)) ≡ true = ap (λ b. b || int_lt (pos 0 -ℤ pos steps) (pos 0)) (below m) in absurd (cc (is, yes))
+    go zero (suc n) is = let holds : is_negative (back (len 0 (suc n))) ≡ true = ap (λ b. int_lt (pos 0 -ℤ pos 0) (pos 0) || b) (below n) in absurd (cc (is, holds))
+    go (suc m) steps is = let holds : is_negative (back (len (suc m) steps)) ≡ true = ap (λ b. b || int_lt (pos 0 -ℤ pos steps) (pos 0)) (below m) in absurd (cc (is, holds))

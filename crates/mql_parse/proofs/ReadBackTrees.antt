@@ -51,8 +51,8 @@ back_word span is = ap (λ s. back (length_of (span_text s))) is.2 ∙ ap back (
 
 -- a span that could go back, without a sign
 back_nothing : (span : Span) → IsBack span → is_negative span ≡ false → ahead (length_of (span_text span)) ≡ span
-back_nothing span is no =
-    let none = back_sign is.0 (ap is_negative (sym is.2) ∙ no) in
+back_nothing span is apart =
+    let none = back_sign is.0 (ap is_negative (sym is.2) ∙ apart) in
     ap (λ s. ahead (length_of (span_text s))) is.2
     ∙ ap ahead (back_says is.0 is.1)
     ∙ ap ahead none ∙ ap back (sym none) ∙ sym is.2

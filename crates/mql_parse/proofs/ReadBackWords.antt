@@ -274,10 +274,10 @@ many_back Right extra is ws rest (a_blank (a_word {ws = more} at names)) =
 
 no_match : (names : List (List ℕ)) (many : Many) (extra : List (List ℕ)) → names ≡ [] → many ≡ One → extra ≡ []
     → (ws rest : List Word) → Stand (many_pieces many extra) ws rest → Mods ws rest (matching All names many extra)
-no_match names One extra none one no ws rest no_piece =
-    subst (λ n. Mods rest rest (matching All n One extra)) (sym none) (subst (λ e. Mods rest rest (matching All [] One e)) (sym no) no_mods)
-no_match names Left extra none one no ws rest all = absurd (cc one)
-no_match names Right extra none one no ws rest all = absurd (cc one)
+no_match names One extra none one apart ws rest no_piece =
+    subst (λ n. Mods rest rest (matching All n One extra)) (sym none) (subst (λ e. Mods rest rest (matching All [] One e)) (sym apart) no_mods)
+no_match names Left extra none one apart ws rest all = absurd (cc one)
+no_match names Right extra none one apart ws rest all = absurd (cc one)
 
 pub mods_back : (kind : MatchKind) (names : List (List ℕ)) (many : Many) (extra : List (List ℕ)) → IsMatching kind names many extra
     → (ws rest : List Word) → Stand (kind_pieces kind names ++ many_pieces many extra) ws rest → Mods ws rest (matching kind names many extra)
