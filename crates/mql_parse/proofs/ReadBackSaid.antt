@@ -91,11 +91,11 @@ real_class Str text = refl
 real_class Mark text = mark_class no_phantom text refl refl
 
 numeral_kind : (kind : TokenKind) (text : List ℕ) → class_of_kind kind text ≡ Class.Numeral → kind ≡ Number
-numeral_kind Name text is = let apart = name_class no_numeral text refl refl in absurd (cc (ap no_numeral is, apart))
+numeral_kind Name text is = let apart = name_class no_numeral text refl refl in absurd (cc apart)
 numeral_kind Number text is = refl
 numeral_kind Duration text is = absurd (cc is)
 numeral_kind Str text is = absurd (cc is)
-numeral_kind Mark text is = let apart = mark_class no_numeral text refl refl in absurd (cc (ap no_numeral is, apart))
+numeral_kind Mark text is = let apart = mark_class no_numeral text refl refl in absurd (cc apart)
 
 items_of : (items : List Item) → HasItems items → AllByRecursion IsItem items
 items_of [] has = absurd has
@@ -171,12 +171,12 @@ none_extra One = refl
 none_extra _ = tt
 
 some_extra : (w : Word) (many : Many) (extra : List (List ℕ)) → Is (Class.Joining many) w → IsMany many extra
-some_extra w One extra is = let real = real_class w.kind w.text in absurd (cc (ap no_phantom is, real))
+some_extra w One extra is = let real = real_class w.kind w.text in absurd (cc real)
 some_extra w _ extra is = tt
 
 some_kind : (w : Word) (kind : MatchKind) (names : List (List ℕ)) (many : Many) (extra : List (List ℕ)) → Is (Class.Pairing kind) w → IsMany many extra
     → IsMatching kind names many extra
-some_kind w NoKind names many extra is many_is = let real = real_class w.kind w.text in absurd (cc (ap no_phantom is, real))
+some_kind w NoKind names many extra is many_is = let real = real_class w.kind w.text in absurd (cc real)
 some_kind w On names many extra is many_is = many_is
 some_kind w Ignoring names many extra is many_is = many_is
 
@@ -188,7 +188,7 @@ nameless : {text rest : List Word} {lists : List (List Item)} → Braces text re
 nameless (no_items close is) are = are
 nameless (some_lists some) are = some_nameless some are
 
-module _ {len : ℕ} where
+module _ (len : ℕ) where
   label_name : (w : Word) → IsLabel w → Fine len w → IsName w.text
   label_name w is fine = subst (λ k. IsToken k w.text) is fine.1
 
@@ -296,80 +296,80 @@ module _ {len : ℕ} where
       window_said (ahead (length_of d.text)) (length_of d.text, fits fine.1.0.0, refl) behind fine.1.1.1
   postfix_said (not_windowed offset) fine = offset_said offset fine
 
--- ---- trees
+  -- ---- trees
 
-mutual
-  reads_said : {len n l : ℕ} {o : Bool} {text rest : List Word} {t : Tree} → Reads len n l o text rest t → AllFine len text → Said len rest t
-  reads_said (looser x) fine = reads_said x fine
-  reads_said {len = len} (an_operator {a = a} {b = b} {m = m} w op x is truths mods y) fine =
-      let left = reads_said x fine in
-      let truth_is = truth_said truths left.fine.1 in
-      let matching_is = mods_said mods truth_is.0 in
-      let right = reads_said y matching_is.fine in
-      record {
-        fine = right.fine;
-        printed = (left.printed, right.printed, matching_is.names, matching_is.extra);
-        said = (left.said, right.said, truth_is.1, matching_is.is);
-      }
-  reads_said (a_minus w is may x) fine = let inner = reads_said x fine.1 in record { fine = inner.fine; printed = inner.printed; said = inner.said }
-  reads_said (a_plus w is may x) fine = reads_said x fine.1
-  reads_said (a_primary x) fine = primary_said x fine
-  reads_said (a_postfix {window = window} {offset = offset} x more) fine =
-      let inner = primary_said x fine in
-      let range = postfix_said more inner.fine in
-      let spans = range_spans window offset range.1 in
-      record { fine = range.0; printed = (inner.printed, spans.0, spans.1); said = (inner.said, range.1) }
-  reads_said (a_with w p e is is_p may templates is_e x) fine =
-      let all = templates_said templates fine.1.1 in
-      let body = reads_said x all.fine.1 in
-      record { fine = body.fine; printed = (all.printed, body.printed); said = (all.said, body.said) }
+  mutual
+    reads_said : {n l : ℕ} {o : Bool} {text rest : List Word} {t : Tree} → Reads len n l o text rest t → AllFine len text → Said len rest t
+    reads_said (looser x) fine = reads_said x fine
+    reads_said (an_operator {a = a} {b = b} {m = m} w op x is truths mods y) fine =
+        let left = reads_said x fine in
+        let truth_is = truth_said truths left.fine.1 in
+        let matching_is = mods_said mods truth_is.0 in
+        let right = reads_said y matching_is.fine in
+        record {
+          fine = right.fine;
+          printed = (left.printed, right.printed, matching_is.names, matching_is.extra);
+          said = (left.said, right.said, truth_is.1, matching_is.is);
+        }
+    reads_said (a_minus w is may x) fine = let inner = reads_said x fine.1 in record { fine = inner.fine; printed = inner.printed; said = inner.said }
+    reads_said (a_plus w is may x) fine = reads_said x fine.1
+    reads_said (a_primary x) fine = primary_said x fine
+    reads_said (a_postfix {window = window} {offset = offset} x more) fine =
+        let inner = primary_said x fine in
+        let range = postfix_said more inner.fine in
+        let spans = range_spans window offset range.1 in
+        record { fine = range.0; printed = (inner.printed, spans.0, spans.1); said = (inner.said, range.1) }
+    reads_said (a_with w p e is is_p may templates is_e x) fine =
+        let all = templates_said templates fine.1.1 in
+        let body = reads_said x all.fine.1 in
+        record { fine = body.fine; printed = (all.printed, body.printed); said = (all.said, body.said) }
 
-  primary_said : {len n : ℕ} {text rest : List Word} {t : Tree} → Primary len n text rest t → AllFine len text → Said len rest t
-  primary_said (a_number w is fits) fine =
-      let unsigned = subst (λ k. IsToken k w.text) (numeral_kind w.kind w.text is) fine.0.1 in
-      record { fine = fine.1; printed = number_printed w.text unsigned (fits fine.0.0); said = tt }
-  primary_said (a_string w is) fine = record { fine = fine.1; printed = tt; said = tt }
-  primary_said (in_brackets w e is may x is_e) fine = let inner = reads_said x fine.1 in record { fine = inner.fine.1; printed = inner.printed; said = inner.said }
-  primary_said (a_call w p e is group is_p may xs is_e other keeps) fine =
-      let first = group_said group fine.1 in
-      let args = args_said xs first.0.1 in
-      let second = group_said other args.fine.1 in
-      record {
-        fine = keep_said keeps second.0;
-        printed = (free_name w is fine.0, args.printed, first.1, second.1);
-        said = (free_text w is, args.said);
-      }
-  primary_said (a_metric w is) fine = record { fine = fine.1; printed = (free_name w is fine.0, tt); said = (free_text w is, tt) }
-  primary_said (a_selector w b is is_b braces) fine =
-      let inside = braces_said braces fine.1.1 in
-      record { fine = inside.0; printed = (free_name w is fine.0, inside.1); said = (free_text w is, inside.2) }
-  primary_said (a_nameless w is braces) fine =
-      let inside = braces_said braces fine.1 in
-      record { fine = inside.0; printed = nameless braces inside.1; said = (tt, inside.2) }
+    primary_said : {n : ℕ} {text rest : List Word} {t : Tree} → Primary len n text rest t → AllFine len text → Said len rest t
+    primary_said (a_number w is fits) fine =
+        let unsigned = subst (λ k. IsToken k w.text) (numeral_kind w.kind w.text is) fine.0.1 in
+        record { fine = fine.1; printed = number_printed w.text unsigned (fits fine.0.0); said = tt }
+    primary_said (a_string w is) fine = record { fine = fine.1; printed = tt; said = tt }
+    primary_said (in_brackets w e is may x is_e) fine = let inner = reads_said x fine.1 in record { fine = inner.fine.1; printed = inner.printed; said = inner.said }
+    primary_said (a_call w p e is group is_p may xs is_e other keeps) fine =
+        let first = group_said group fine.1 in
+        let args = args_said xs first.0.1 in
+        let second = group_said other args.fine.1 in
+        record {
+          fine = keep_said keeps second.0;
+          printed = (free_name w is fine.0, args.printed, first.1, second.1);
+          said = (free_text w is, args.said);
+        }
+    primary_said (a_metric w is) fine = record { fine = fine.1; printed = (free_name w is fine.0, tt); said = (free_text w is, tt) }
+    primary_said (a_selector w b is is_b braces) fine =
+        let inside = braces_said braces fine.1.1 in
+        record { fine = inside.0; printed = (free_name w is fine.0, inside.1); said = (free_text w is, inside.2) }
+    primary_said (a_nameless w is braces) fine =
+        let inside = braces_said braces fine.1 in
+        record { fine = inside.0; printed = nameless braces inside.1; said = (tt, inside.2) }
 
-  args_said : {len n : ℕ} {text rest : List Word} {ts : List Tree} → Args len n text rest ts → AllFine len text → AllSaid len rest ts
-  args_said no_args fine = record { fine = fine; printed = tt; said = tt }
-  args_said (last_arg x) fine = let first = reads_said x fine in record { fine = first.fine; printed = (first.printed, tt); said = (first.said, tt) }
-  args_said (next_arg w x is more) fine =
-      let first = reads_said x fine in
-      let later = args_said more first.fine.1 in
-      record { fine = later.fine; printed = (first.printed, later.printed); said = (first.said, later.said) }
+    args_said : {n : ℕ} {text rest : List Word} {ts : List Tree} → Args len n text rest ts → AllFine len text → AllSaid len rest ts
+    args_said no_args fine = record { fine = fine; printed = tt; said = tt }
+    args_said (last_arg x) fine = let first = reads_said x fine in record { fine = first.fine; printed = (first.printed, tt); said = (first.said, tt) }
+    args_said (next_arg w x is more) fine =
+        let first = reads_said x fine in
+        let later = args_said more first.fine.1 in
+        record { fine = later.fine; printed = (first.printed, later.printed); said = (first.said, later.said) }
 
-  template_said : {len n : ℕ} {text rest : List Word} {t : TreeTemplate} → Template len n text rest t → AllFine len text → TemplateSaid len rest t
-  template_said (a_template w e is params is_e x) fine =
-      let all = parens_said params fine.1 in
-      let body = reads_said x all.0.1 in
-      record { fine = body.fine; name = free_name w is fine.0; free = free_text w is; params = all.1; printed = body.printed; said = body.said }
+    template_said : {n : ℕ} {text rest : List Word} {t : TreeTemplate} → Template len n text rest t → AllFine len text → TemplateSaid len rest t
+    template_said (a_template w e is params is_e x) fine =
+        let all = parens_said params fine.1 in
+        let body = reads_said x all.0.1 in
+        record { fine = body.fine; name = free_name w is fine.0; free = free_text w is; params = all.1; printed = body.printed; said = body.said }
 
-  templates_said : {len n : ℕ} {text rest : List Word} {ts : List TreeTemplate} → Templates len n text rest ts → AllFine len text → TemplatesSaid len rest ts
-  templates_said no_template fine = record { fine = fine; printed = tt; said = tt }
-  templates_said (last_template x) fine =
-      let first = template_said x fine in
-      record { fine = first.fine; printed = (first.name, first.params.0, first.printed, tt); said = (first.free, first.params.1, first.said, tt) }
-  templates_said (more_templates w x is more) fine =
-      let first = template_said x fine in
-      let later = templates_said more first.fine.1 in
-      record { fine = later.fine; printed = (first.name, first.params.0, first.printed, later.printed); said = (first.free, first.params.1, first.said, later.said) }
+    templates_said : {n : ℕ} {text rest : List Word} {ts : List TreeTemplate} → Templates len n text rest ts → AllFine len text → TemplatesSaid len rest ts
+    templates_said no_template fine = record { fine = fine; printed = tt; said = tt }
+    templates_said (last_template x) fine =
+        let first = template_said x fine in
+        record { fine = first.fine; printed = (first.name, first.params.0, first.printed, tt); said = (first.free, first.params.1, first.said, tt) }
+    templates_said (more_templates w x is more) fine =
+        let first = template_said x fine in
+        let later = templates_said more first.fine.1 in
+        record { fine = later.fine; printed = (first.name, first.params.0, first.printed, later.printed); said = (first.free, first.params.1, first.said, later.said) }
 
 pub text_is_said : TextIsSaid
-text_is_said text tokens t are spells = let all = reads_said spells.1 (words_fine text tokens are) in (all.printed, all.said)
+text_is_said text tokens t are spells = let all = reads_said (length text) spells.1 (words_fine text tokens are) in (all.printed, all.said)

@@ -61,39 +61,42 @@ record OffsetRead (span : Span) (ws rest : List Word) : Type 0 where
   at : ℕ
   reads : Offset 0 at ws rest span
 
-offset_back : (span : Span) → IsAhead span ⊎ IsBack span → (ws rest : List Word) → Stand (offset_pieces (Some span)) ws rest → OffsetRead span ws rest
-offset_back span is ws rest (a_blank (a_word {ws = more} at (a_blank all))) = go (is_negative span) refl all
-  where
-    no_sign : is_negative span ≡ false → ahead (length_of (span_text span)) ≡ span
-    no_sign none = ⊎_elim (λ a. (ahead_word span a).1) (λ b. back_nothing span b none) is
+module _ (span : Span) where
+  signless : IsAhead span ⊎ IsBack span → is_negative span ≡ false → ahead (length_of (span_text span)) ≡ span
+  signless is none = ⊎_elim (λ a. (ahead_word span a).1) (λ b. back_nothing span b none) is
 
-    a_sign : is_negative span ≡ true → back (length_of (span_text span)) ≡ span
-    a_sign some = ⊎_elim (λ a. absurd (cc (some, (ahead_word span a).0))) (λ b. back_word span b) is
+  signed : IsAhead span ⊎ IsBack span → is_negative span ≡ true → back (length_of (span_text span)) ≡ span
+  signed is some = ⊎_elim (λ a. absurd (cc (some, (ahead_word span a).0))) (λ b. back_word span b) is
 
-    go : (b : Bool) → is_negative span ≡ b → Stand (when b (mark (codes "-") ∷ []) ++ word Duration (span_text span) ∷ []) more rest
-        → OffsetRead span (word_at at Name (codes "offset") ∷ more) rest
-    go true some (a_word m (a_word d no_piece)) = record {
-      at = at;
-      reads = subst (Offset 0 at (word_at at Name (codes "offset") ∷ word_at m Mark (codes "-") ∷ word_at d Duration (span_text span) ∷ rest) rest) (a_sign some)
-        (a_back (word_at at Name (codes "offset")) (word_at m Mark (codes "-")) (word_at d Duration (span_text span)) (is_offset at) (is_minus m) refl (outside d));
-    }
-    go false none (a_word d no_piece) = record {
-      at = at;
-      reads = subst (Offset 0 at (word_at at Name (codes "offset") ∷ word_at d Duration (span_text span) ∷ rest) rest) (no_sign none)
-        (an_offset (word_at at Name (codes "offset")) (word_at d Duration (span_text span)) (is_offset at) refl (outside d));
-    }
+  behind_offset : (at : ℕ) → IsAhead span ⊎ IsBack span → (b : Bool) → is_negative span ≡ b → (more rest : List Word)
+      → Stand (when b (mark (codes "-") ∷ []) ++ word Duration (span_text span) ∷ []) more rest
+      → OffsetRead span (word_at at Name (codes "offset") ∷ more) rest
+  behind_offset at is true some more rest (a_word m (a_word d no_piece)) = record {
+    at = at;
+    reads = subst (Offset 0 at (word_at at Name (codes "offset") ∷ word_at m Mark (codes "-") ∷ word_at d Duration (span_text span) ∷ rest) rest) (signed is some)
+      (a_back (word_at at Name (codes "offset")) (word_at m Mark (codes "-")) (word_at d Duration (span_text span)) (is_offset at) (is_minus m) refl (outside d));
+  }
+  behind_offset at is false none more rest (a_word d no_piece) = record {
+    at = at;
+    reads = subst (Offset 0 at (word_at at Name (codes "offset") ∷ word_at d Duration (span_text span) ∷ rest) rest) (signless is none)
+      (an_offset (word_at at Name (codes "offset")) (word_at d Duration (span_text span)) (is_offset at) refl (outside d));
+  }
 
--- a window with whatever stands behind it
-window_back : (span : Span) (offset : Option Span) → IsAhead span → (ws mid rest : List Word) → Stand (window_pieces (Some span)) ws mid
-    → OffsetIfAny 0 mid rest offset → (at : ℕ) × Postfix 0 at ws rest (Some span) offset
-window_back span offset is ws mid rest (a_word {ws = more} at all) behind = go (is_negative span) refl all
-  where
-    go : (b : Bool) → is_negative span ≡ b → Stand ((when b (mark (codes "-") ∷ []) ++ word Duration (span_text span) ∷ []) ++ mark (codes "]") ∷ []) more mid
-        → (place : ℕ) × Postfix 0 place (word_at at Mark (codes "[") ∷ more) rest (Some span) offset
-    go true some stands = absurd (cc (some, (ahead_word span is).0))
-    go false none (a_word d (a_word e no_piece)) =
-        (at, subst (λ s. Postfix 0 at (word_at at Mark (codes "[") ∷ word_at d Duration (span_text span) ∷ word_at e Mark (codes "]") ∷ mid) rest (Some s) offset) (ahead_word span is).1
-        (windowed (word_at at Mark (codes "[")) (word_at d Duration (span_text span)) (word_at e Mark (codes "]")) (is_open_square at) refl (outside d) (is_close_square e) behind))
+  offset_back : IsAhead span ⊎ IsBack span → (ws rest : List Word) → Stand (offset_pieces (Some span)) ws rest → OffsetRead span ws rest
+  offset_back is ws rest (a_blank (a_word {ws = more} at (a_blank all))) = behind_offset at is (is_negative span) refl more rest all
+
+  in_squares : (at : ℕ) (offset : Option Span) → IsAhead span → (rest : List Word) → (b : Bool) → is_negative span ≡ b → (more mid : List Word)
+      → Stand ((when b (mark (codes "-") ∷ []) ++ word Duration (span_text span) ∷ []) ++ mark (codes "]") ∷ []) more mid → OffsetIfAny 0 mid rest offset
+      → Postfix 0 at (word_at at Mark (codes "[") ∷ more) rest (Some span) offset
+  in_squares at offset is rest true some more mid all behind = absurd (cc (some, (ahead_word span is).0))
+  in_squares at offset is rest false none more mid (a_word d (a_word e no_piece)) behind =
+      subst (λ s. Postfix 0 at (word_at at Mark (codes "[") ∷ word_at d Duration (span_text span) ∷ word_at e Mark (codes "]") ∷ mid) rest (Some s) offset) (ahead_word span is).1
+      (windowed (word_at at Mark (codes "[")) (word_at d Duration (span_text span)) (word_at e Mark (codes "]")) (is_open_square at) refl (outside d) (is_close_square e) behind)
+
+  -- a window with whatever stands behind it
+  window_back : (offset : Option Span) → IsAhead span → (ws mid rest : List Word) → Stand (window_pieces (Some span)) ws mid
+      → OffsetIfAny 0 mid rest offset → (at : ℕ) × Postfix 0 at ws rest (Some span) offset
+  window_back offset is ws mid rest (a_word {ws = more} at all) behind = (at, in_squares at offset is rest (is_negative span) refl more mid all behind)
 
 record PostfixRead (window offset : Option Span) (ws rest : List Word) : Type 0 where
   at : ℕ
