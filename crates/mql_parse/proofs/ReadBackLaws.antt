@@ -26,7 +26,7 @@ reads_back t is said words all =
       same = found.same;
       spells = found.spells;
       only = λ len u spells. one_tree 0 words u found.tree (spells_free len words u spells) found.spells;
-      expected = λ len at wrong. none_wrong {L = IsAnyExpr} words wrong.index (found.tree, found.spells) wrong.without_limits;
+      expected = λ len at wrong. none_wrong IsAnyExpr words wrong.index (found.tree, found.spells) wrong.without_limits;
       fits = λ len at beyond. no_number_beyond words (words_fit t is said words all) len at beyond;
     }
 
