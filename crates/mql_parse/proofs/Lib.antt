@@ -3,6 +3,16 @@ mod Held
 mod Limits
 mod Moves
 mod Parts
+mod ReadBackFits
+mod ReadBackItems
+pub mod ReadBackLaws
+mod ReadBackLimits
+mod ReadBackNames
+mod ReadBackNumbers
+mod ReadBackSaid
+mod ReadBackSpans
+mod ReadBackTrees
+mod ReadBackWords
 pub mod ReadingLaws
 mod ToRead
 mod Viable

@@ -1,4 +1,5 @@
 pub mod Faults
 pub mod Grammar
 pub mod Machine
+pub mod ReadBack
 pub mod Values
