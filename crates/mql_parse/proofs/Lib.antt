@@ -6,9 +6,11 @@ mod Parts
 mod ReadBackFits
 mod ReadBackItems
 pub mod ReadBackLaws
+mod ReadBackLevels
 mod ReadBackLimits
 mod ReadBackNames
 mod ReadBackNumbers
+mod ReadBackRanges
 mod ReadBackSaid
 mod ReadBackSpans
 mod ReadBackTrees
