@@ -13,6 +13,7 @@ mod ReadBackNumbers
 mod ReadBackRanges
 mod ReadBackSaid
 mod ReadBackSpans
+mod ReadBackTexts
 mod ReadBackTrees
 mod ReadBackWords
 pub mod ReadingLaws

@@ -158,3 +158,12 @@ abbrev pub TextIsSaid : Type 0
 TextIsSaid =
     (text : List ℕ) (tokens : List Token) (t : Tree) → AreTokens text tokens
     → Spells (length text) (words_of text tokens) t → IsPrinted t × IsSaid t
+
+-- The same query has the same canonical text, and no other query has it.
+abbrev pub SameText : Type 0
+SameText = (t u : Tree) → Same t u → canonical t ≡ canonical u
+
+abbrev pub OneQuery : Type 0
+OneQuery =
+    (t u : Tree) → IsPrinted t → IsSaid t → IsPrinted u → IsSaid u → canonical t ≡ canonical u
+    → Same t u
