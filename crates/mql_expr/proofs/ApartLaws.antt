@@ -12,7 +12,6 @@ use Rattle.mql_lex.proofs.Cuts.{ends, ends_mark, ends_blank, is_lone, plain_cut,
 use Rattle.mql_lex.proofs.Outcomes.{lexed_tokens}
 use Rattle.mql_expr.specs.Canonical.{Piece, blank, word, text_of, parted}
 use Rattle.mql_expr.specs.Lexed.{words, spelled, AreWords}
-
 use Rattle.mql_expr.proofs.PartedLaws.{text_of-append}
 
 abbrev pub IsPiece : Piece → Type 0
@@ -147,15 +146,16 @@ behind : (between : List Piece) (b : Between between) (xs : List (List Piece)) �
 behind between b [] all = ((λ more end. tt), (λ more end. end))
 behind between b (y ∷ ys) all =
     let rest = flat_map (λ z. between ++ z) ys in
-    let later = behind between b ys all.1 in
-    ((λ more end.
-        apart_append (between ++ y) rest more
-        (apart_append between y (text_of rest ++ more) (b.apart (text_of y ++ (text_of rest ++ more)) (all.0.1 (text_of rest ++ more)))
-        (all.0.0 (text_of rest ++ more) (later.1 more end)))
-        (later.0 more end)),
-    (λ more end.
-        ap ends (texts_behind (between ++ y) rest more ∙ texts_behind between y (text_of rest ++ more))
-        ∙ b.cuts (text_of y ++ (text_of rest ++ more))))
+    let later = behind between b ys all.1 in (
+      (λ more end.
+          apart_append (between ++ y) rest more
+          (apart_append between y (text_of rest ++ more) (b.apart (text_of y ++ (text_of rest ++ more)) (all.0.1 (text_of rest ++ more)))
+          (all.0.0 (text_of rest ++ more) (later.1 more end)))
+          (later.0 more end)),
+      (λ more end.
+          ap ends (texts_behind (between ++ y) rest more ∙ texts_behind between y (text_of rest ++ more))
+          ∙ b.cuts (text_of y ++ (text_of rest ++ more))),
+    )
 
 -- the first may be empty or begin with anything
 pub good_parted : (between : List Piece) → Between between → (x : List Piece) (xs : List (List Piece)) → Good x → AllByRecursion GoodStart xs

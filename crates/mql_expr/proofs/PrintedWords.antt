@@ -75,19 +75,25 @@ or_between = record { apart = λ more end. (tt, refl, ((omega arith, refl), refl
 -- ---- in parentheses, braces or brackets
 
 rounded : (ps : List Piece) → Good ps → Always (mark (codes "(") ∷ ps ++ mark (codes ")") ∷ [])
-rounded ps good more =
-    (mark_is 0 (codes "(") refl (omega arith), refl,
-    apart_append ps (mark (codes ")") ∷ []) more (good (41 ∷ more) refl) (mark_is 1 (codes ")") refl (omega arith), refl, tt))
+rounded ps good more = (
+  mark_is 0 (codes "(") refl (omega arith),
+  refl,
+  apart_append ps (mark (codes ")") ∷ []) more (good (41 ∷ more) refl) (mark_is 1 (codes ")") refl (omega arith), refl, tt),
+)
 
 curled : (ps : List Piece) → Good ps → Always (mark (codes "{") ∷ ps ++ mark (codes "}") ∷ [])
-curled ps good more =
-    (mark_is 2 (codes "{") refl (omega arith), refl,
-    apart_append ps (mark (codes "}") ∷ []) more (good (125 ∷ more) refl) (mark_is 3 (codes "}") refl (omega arith), refl, tt))
+curled ps good more = (
+  mark_is 2 (codes "{") refl (omega arith),
+  refl,
+  apart_append ps (mark (codes "}") ∷ []) more (good (125 ∷ more) refl) (mark_is 3 (codes "}") refl (omega arith), refl, tt),
+)
 
 squared : (ps : List Piece) → Good ps → Always (mark (codes "[") ∷ ps ++ mark (codes "]") ∷ [])
-squared ps good more =
-    (mark_is 4 (codes "[") refl (omega arith), refl,
-    apart_append ps (mark (codes "]") ∷ []) more (good (93 ∷ more) refl) (mark_is 5 (codes "]") refl (omega arith), refl, tt))
+squared ps good more = (
+  mark_is 4 (codes "[") refl (omega arith),
+  refl,
+  apart_append ps (mark (codes "]") ∷ []) more (good (93 ∷ more) refl) (mark_is 5 (codes "]") refl (omega arith), refl, tt),
+)
 
 -- ---- names
 
@@ -134,10 +140,11 @@ filter_op_cut MatchesNot more end = end
 
 item_good : (item : Item) → IsItem item → Good (item_pieces item)
 item_good (Named at name) is more end = name_good name is more end
-item_good (Is filter) is more end =
-    (name_is filter.name is,
-    ap ends (append_assoc (filter_op_text filter.op) (string_text filter.value ++ []) more) ∙ filter_op_cuts filter.op ((string_text filter.value ++ []) ++ more),
-    (filter_op_is filter.op, filter_op_cut filter.op ((string_text filter.value ++ []) ++ more) refl, (string_is filter.value, end, tt)))
+item_good (Is filter) is more end = (
+  name_is filter.name is,
+  ap ends (append_assoc (filter_op_text filter.op) (string_text filter.value ++ []) more) ∙ filter_op_cuts filter.op ((string_text filter.value ++ []) ++ more),
+  (filter_op_is filter.op, filter_op_cut filter.op ((string_text filter.value ++ []) ++ more) refl, (string_is filter.value, end, tt)),
+)
 
 item_starts : (item : Item) → IsItem item → Starts (item_pieces item)
 item_starts (Named at name) is more = name_starts name is more
@@ -153,9 +160,10 @@ list_good items all = good_all (mark (codes ",") ∷ []) comma_between (map item
 
 full_list : (items : List Item) → HasItems items → GoodStart (list_pieces items)
 full_list [] has = absurd has
-full_list (item ∷ items) has =
-    (list_good (item ∷ items) has,
-    starts_append (item_pieces item) (flat_map (λ y. (mark (codes ",") ∷ []) ++ y) (map item_pieces items)) (item_starts item has.0))
+full_list (item ∷ items) has = (
+  list_good (item ∷ items) has,
+  starts_append (item_pieces item) (flat_map (λ y. (mark (codes ",") ∷ []) ++ y) (map item_pieces items)) (item_starts item has.0),
+)
 
 lists_parts : (lists : List (List Item)) → AllByRecursion HasItems lists → AllByRecursion GoodStart (map list_pieces lists)
 lists_parts [] all = tt
@@ -346,9 +354,11 @@ operator_apart op truth m names extra more end =
     let behind = text_of (matching_pieces m) ++ 32 ∷ more in
     let blanks : blank_first behind ≡ true = matching_blanks m (32 ∷ more) refl in
     apart_append (blank ∷ op_piece op ∷ truth_pieces truth ++ matching_pieces m) (blank ∷ []) more
-    (apart_append (blank ∷ op_piece op ∷ truth_pieces truth) (matching_pieces m) (32 ∷ more)
-    (tt, ap ends_blank (append_assoc (piece_text (op_piece op)) (text_of (truth_pieces truth)) behind) ∙ op_starts op (text_of (truth_pieces truth) ++ behind),
-    (op_is op, op_cut op (text_of (truth_pieces truth) ++ behind) (truth_blanks truth behind blanks), truth_apart truth behind blanks))
+    (apart_append (blank ∷ op_piece op ∷ truth_pieces truth) (matching_pieces m) (32 ∷ more) (
+      tt,
+      ap ends_blank (append_assoc (piece_text (op_piece op)) (text_of (truth_pieces truth)) behind) ∙ op_starts op (text_of (truth_pieces truth) ++ behind),
+      (op_is op, op_cut op (text_of (truth_pieces truth) ++ behind) (truth_blanks truth behind blanks), truth_apart truth behind blanks),
+    )
     (matching_apart m names extra (32 ∷ more)))
     (tt, end, tt)
 
@@ -382,14 +392,15 @@ called_apart name before after parts is group all more =
 
 binding_good : (name : List ℕ) (params : List Param) (body : List Piece) → IsName name → AllByRecursion IsParam params → GoodStart body
     → GoodStart (binding name params body)
-binding_good name params body is all good =
-    ((λ more end.
-        let behind = text_of (blank ∷ mark (codes "=") ∷ blank ∷ body) ++ more in
-        apart_append (named name ∷ params_pieces params) (blank ∷ mark (codes "=") ∷ blank ∷ body) more
-        (name_is name is, params_joins params behind refl, params_good params all behind refl)
-        (tt, refl, (mark_is 7 (codes "=") refl (omega arith), refl, (tt, good.1 more, good.0 more end)))),
-    starts_append (named name ∷ params_pieces params) (blank ∷ mark (codes "=") ∷ blank ∷ body)
-    (starts_append (named name ∷ []) (params_pieces params) (name_starts name is)))
+binding_good name params body is all good = (
+  (λ more end.
+      let behind = text_of (blank ∷ mark (codes "=") ∷ blank ∷ body) ++ more in
+      apart_append (named name ∷ params_pieces params) (blank ∷ mark (codes "=") ∷ blank ∷ body) more
+      (name_is name is, params_joins params behind refl, params_good params all behind refl)
+      (tt, refl, (mark_is 7 (codes "=") refl (omega arith), refl, (tt, good.1 more, good.0 more end)))),
+  starts_append (named name ∷ params_pieces params) (blank ∷ mark (codes "=") ∷ blank ∷ body)
+      (starts_append (named name ∷ []) (params_pieces params) (name_starts name is)),
+)
 
 mutual
   tree_good : (t : Tree) → IsPrinted t → Good (pieces t)
@@ -455,10 +466,11 @@ mutual
 
   bindings_parts : (ts : Templates) → AreBindings ts → AllByRecursion GoodStart (bindings ts)
   bindings_parts no_templates is = tt
-  bindings_parts (next_template at name params body ts) is =
-      (binding_good name params (operand 1 (level_of body) (pieces body)) is.0 is.1
-      (operand_good 1 (level_of body) (pieces body) (tree_good body is.2), operand_starts 1 (level_of body) (pieces body) (tree_starts body is.2)),
-      bindings_parts ts is.3)
+  bindings_parts (next_template at name params body ts) is = (
+    binding_good name params (operand 1 (level_of body) (pieces body)) is.0 is.1
+        (operand_good 1 (level_of body) (pieces body) (tree_good body is.2), operand_starts 1 (level_of body) (pieces body) (tree_starts body is.2)),
+    bindings_parts ts is.3,
+  )
 
 pub prints_its_words : PrintsItsWords
 prints_its_words t is = (tokens_at 0 (pieces t), apart_words (pieces t) (tree_good t is [] refl))

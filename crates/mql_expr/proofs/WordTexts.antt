@@ -113,14 +113,16 @@ inner_all [] = refl
 inner_all (b ∷ bs) = inner_escaped b (flat_map escaped_byte bs) ∙ inner_all bs
 
 pub string_is : (text : List ℕ) → IsPiece (word Str (string_text text))
-string_is text =
-    (omega arith, record {
-      quote = 34;
-      inner = flat_map escaped_byte text;
-      parts = refl;
-      a_quote = refl;
-      between = inner_all text;
-    })
+string_is text = (
+  omega arith,
+  record {
+    quote = 34;
+    inner = flat_map escaped_byte text;
+    parts = refl;
+    a_quote = refl;
+    between = inner_all text;
+  },
+)
 
 -- ---- spans
 

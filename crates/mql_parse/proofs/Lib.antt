@@ -6,11 +6,14 @@ mod Parts
 mod ReadBackFits
 mod ReadBackItems
 pub mod ReadBackLaws
+mod ReadBackLevels
 mod ReadBackLimits
 mod ReadBackNames
 mod ReadBackNumbers
+mod ReadBackRanges
 mod ReadBackSaid
 mod ReadBackSpans
+mod ReadBackTexts
 mod ReadBackTrees
 mod ReadBackWords
 pub mod ReadingLaws

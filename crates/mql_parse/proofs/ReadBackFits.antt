@@ -1,8 +1,7 @@
 -- The numbers and durations of canonical text are within their limits.
 use Rattle.std.specs.Prelude.{◌≡◌, ◌⊎◌, ℕ, suc, Bool, true, false, List, [], ◌∷◌, ◌++◌, map, flat_map, codes, Option, Some, None, is_some, ℤ, nat_lt, if◌then◌else◌, ⊤}
 use Rattle.std.specs.List.{AllByRecursion}
-use Rattle.std.specs.Option.{option_map_or}
-use Rattle.std.proofs.Common.{refl, ap, sym, subst, ◌∙◌, ⊎_elim}
+use Rattle.std.proofs.Common.{ap, ◌∙◌, ⊎_elim}
 use Rattle.vm_decimal.specs.NumberText.{number_text}
 use Rattle.vm_decimal.proofs.PrintedTexts.{printed_read}
 use Rattle.mql_lex.specs.declared.group.Group.{Group}
@@ -15,8 +14,8 @@ use Rattle.mql_lex.specs.declared.operator.Op.{Op}
 use Rattle.mql_lex.specs.declared.operator.Op.TheVariants.{Default}
 use Rattle.mql_lex.specs.declared.span.Span.{Span}
 use Rattle.mql_lex.specs.declared.token.TokenKind.{TokenKind}
-use Rattle.mql_lex.specs.declared.token.TokenKind.TheVariants.{Name, Number, Duration, Str, Mark}
-use Rattle.mql_expr.specs.Canonical.{Piece, blank, word, mark, named, when, parted, parted_names, names_pieces, item_pieces, list_pieces, braces_pieces, select_pieces, span_pieces, window_pieces, offset_pieces, call_name, group_pieces, before_pieces, after_pieces, keep_pieces, op_piece, truth_pieces, modifier, kind_pieces, many_pieces, matching_pieces, operator_pieces, params_pieces, in_parentheses, operand, binding, pieces, arguments, bindings}
+use Rattle.mql_lex.specs.declared.token.TokenKind.TheVariants.{Number, Duration}
+use Rattle.mql_expr.specs.Canonical.{Piece, blank, word, mark, named, when, parted, parted_names, names_pieces, item_pieces, list_pieces, braces_pieces, select_pieces, span_pieces, window_pieces, offset_pieces, call_name, group_pieces, before_pieces, after_pieces, keep_pieces, op_piece, truth_pieces, kind_pieces, many_pieces, matching_pieces, operator_pieces, params_pieces, in_parentheses, operand, binding, pieces, arguments, bindings}
 use Rattle.mql_expr.specs.Levels.{level_of, level_of_op}
 use Rattle.mql_expr.specs.Lexed.{IsNumber, IsPrinted, ArePrinted, AreBindings}
 use Rattle.mql_expr.specs.Spans.{is_negative, span_text}
@@ -78,9 +77,11 @@ fit_each_param (p ∷ ps) = ((tt, tt), fit_each_param ps)
 
 fit_params : (params : List Param) → AreFit (params_pieces params)
 fit_params [] = tt
-fit_params (p ∷ ps) =
-    (tt, fit_append (parted (mark (codes ",") ∷ []) (map (λ q. named q.name ∷ []) (p ∷ ps))) (mark (codes ")") ∷ [])
-    (fit_parted (mark (codes ",") ∷ []) (tt, tt) (map (λ q. named q.name ∷ []) (p ∷ ps)) (fit_each_param (p ∷ ps))) (tt, tt))
+fit_params (p ∷ ps) = (
+  tt,
+  fit_append (parted (mark (codes ",") ∷ []) (map (λ q. named q.name ∷ []) (p ∷ ps))) (mark (codes ")") ∷ [])
+      (fit_parted (mark (codes ",") ∷ []) (tt, tt) (map (λ q. named q.name ∷ []) (p ∷ ps)) (fit_each_param (p ∷ ps))) (tt, tt),
+)
 
 fit_item : (item : Item) → AreFit (item_pieces item)
 fit_item (Is filter) = (tt, (tt, (tt, tt)))
@@ -96,9 +97,11 @@ fit_lists (items ∷ lists) = (fit_parted (mark (codes ",") ∷ []) (tt, tt) (ma
 
 fit_braces : (lists : List (List Item)) → AreFit (braces_pieces lists)
 fit_braces [] = tt
-fit_braces (items ∷ lists) =
-    (tt, fit_append (parted (blank ∷ named (codes "or") ∷ blank ∷ []) (map list_pieces (items ∷ lists))) (mark (codes "}") ∷ [])
-    (fit_parted (blank ∷ named (codes "or") ∷ blank ∷ []) (tt, (tt, (tt, tt))) (map list_pieces (items ∷ lists)) (fit_lists (items ∷ lists))) (tt, tt))
+fit_braces (items ∷ lists) = (
+  tt,
+  fit_append (parted (blank ∷ named (codes "or") ∷ blank ∷ []) (map list_pieces (items ∷ lists))) (mark (codes "}") ∷ [])
+      (fit_parted (blank ∷ named (codes "or") ∷ blank ∷ []) (tt, (tt, (tt, tt))) (map list_pieces (items ∷ lists)) (fit_lists (items ∷ lists))) (tt, tt),
+)
 
 fit_select : (name : Option (List ℕ)) (lists : List (List Item)) → AreFit (select_pieces name lists)
 fit_select None lists = fit_braces lists
@@ -168,9 +171,14 @@ fit_many Right names = (tt, (tt, fit_listed names))
 
 fit_operator : (op : Op) (truth : Bool) (m : Matching) → AreFit (operator_pieces op truth m)
 fit_operator op truth m =
-    fit_append (blank ∷ op_piece op ∷ (truth_pieces truth ++ matching_pieces m)) (blank ∷ [])
-    (tt, (fit_op op, fit_append (truth_pieces truth) (matching_pieces m) (fit_truth truth)
-    (fit_append (kind_pieces m.kind m.names) (many_pieces m.many m.extra) (fit_kind m.kind m.names) (fit_many m.many m.extra)))) (tt, tt)
+    fit_append (blank ∷ op_piece op ∷ (truth_pieces truth ++ matching_pieces m)) (blank ∷ []) (
+      tt,
+      (
+        fit_op op,
+        fit_append (truth_pieces truth) (matching_pieces m) (fit_truth truth)
+            (fit_append (kind_pieces m.kind m.names) (many_pieces m.many m.extra) (fit_kind m.kind m.names) (fit_many m.many m.extra)),
+      ),
+    ) (tt, tt)
 
 -- ---- trees
 

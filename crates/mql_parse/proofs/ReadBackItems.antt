@@ -1,5 +1,5 @@
 -- What is read of the words of strings and selectors.
-use Rattle.std.specs.Prelude.{◌≡◌, ℕ, ◌-◌, ◌==◌, Bool, true, false, List, [], ◌∷◌, ◌++◌, length, take, drop, map, flat_map, codes, Option, Some, None, if◌then◌else◌}
+use Rattle.std.specs.Prelude.{◌≡◌, ℕ, ◌-◌, ◌==◌, Bool, true, false, List, [], ◌∷◌, ◌++◌, length, take, map, flat_map, codes, Option, Some, None, if◌then◌else◌}
 use Rattle.std.specs.List.{AllByRecursion}
 use Rattle.std.proofs.Common.{refl, ap, sym, subst, ◌∙◌, append_assoc, length-append, arith}
 use Rattle.std.proofs.Math.Seq.{take-append_seam}
@@ -8,7 +8,7 @@ use Rattle.vm_labels.specs.Text.{escaped_byte}
 use Rattle.vm_labels.specs.declared.selector.FilterOp.{FilterOp}
 use Rattle.vm_labels.specs.declared.selector.FilterOp.TheVariants.{Matches, MatchesNot, Equal as EqualTo, Differs as DiffersFrom}
 use Rattle.mql_lex.specs.declared.token.TokenKind.TheVariants.{Name, Mark, Str}
-use Rattle.mql_expr.specs.Canonical.{Piece, blank, mark, named, parted, string_text, filter_op_text, item_pieces, list_pieces, braces_pieces, select_pieces}
+use Rattle.mql_expr.specs.Canonical.{Piece, blank, mark, named, parted, string_text, filter_op_text, item_pieces, list_pieces, select_pieces}
 use Rattle.mql_expr.specs.Lexed.{HasItems, AreLists, IsSelect}
 use Rattle.mql_expr.specs.Tree.{Tree, select}
 use Rattle.mql_expr.specs.declared.item.Item.{Item}
@@ -18,7 +18,7 @@ use Rattle.mql_lists.specs.Grammar.{Compares, OneItem, a_filter, a_name, OneList
 use Rattle.mql_lists.specs.Values.{unescaped, between, value_of}
 use Rattle.mql_lists.specs.Words.{Word}
 use Rattle.mql_parse.specs.Grammar.{Primary, a_metric, a_selector, a_nameless}
-use Rattle.mql_parse.specs.ReadBack.{Same, placeless, placeless_item, IsFreeIfAny, IsFreeItem}
+use Rattle.mql_parse.specs.ReadBack.{Same, placeless_item, IsFreeIfAny, IsFreeItem}
 use Rattle.mql_parse.proofs.ReadBackWords.{Stand, no_piece, a_blank, a_word, word_at, split, is_open_curly, is_close_curly, is_comma, is_or}
 
 -- ---- strings
@@ -65,7 +65,7 @@ item_back (Is filter) free ws rest (a_word at (a_word sign (a_word value no_piec
   found = Is (record { name = filter.name; op = filter.op; value = value_of (string_text filter.value) });
   same = ap (λ (t : List ℕ). Is (record { name = filter.name; op = filter.op; value = t })) (string_says filter.value);
   reads = a_filter (word_at at Name filter.name) (word_at sign Mark (filter_op_text filter.op)) (word_at value Str (string_text filter.value)) refl
-    (compares filter.op sign) refl;
+      (compares filter.op sign) refl;
 }
 item_back (Named place name) free ws rest (a_word at no_piece) = record { found = Named at name; same = refl; reads = a_name (word_at at Name name) free }
 

@@ -1,15 +1,12 @@
 -- What is printed is read back.
-use Rattle.std.specs.Prelude.{◌≡◌, ℕ, List, []}
-use Rattle.std.specs.List.{AllByRecursion}
+use Rattle.std.specs.Prelude.{List, []}
 use Rattle.vm_base.proofs.RunLaws.{none_wrong}
-use Rattle.mql_lex.specs.declared.token.Token.{Token}
 use Rattle.mql_expr.specs.Canonical.{canonical, pieces}
 use Rattle.mql_expr.specs.Lexed.{IsPrinted}
 use Rattle.mql_expr.specs.Tree.{Tree}
 use Rattle.mql_expr.proofs.PrintedWords.{prints_its_words}
 use Rattle.mql_lists.specs.Words.{Word, words_of}
-use Rattle.mql_parse.specs.Faults.{IsUnexpected}
-use Rattle.mql_parse.specs.Grammar.{Spells, IsAnyExpr}
+use Rattle.mql_parse.specs.Grammar.{IsAnyExpr}
 use Rattle.mql_parse.specs.ReadBack.{IsSaid, ReadsBack, PrintedIsRead, SaidIsRead}
 use Rattle.mql_parse.proofs.ReadBackFits.{words_fit}
 use Rattle.mql_parse.proofs.ReadBackLimits.{no_number_beyond, spells_free}

@@ -1,13 +1,11 @@
 -- A number or a duration that is within its limits is refused by none of them.
-use Rattle.std.specs.Prelude.{◌≡◌, ℕ, zero, suc, ◌<◌, ◌≤◌, nat_lt, Bool, true, false, List, [], ◌∷◌, ◌+◌, ◌++◌, length, take, Option, Some, None, is_some, Result, Ok, Err, option_and_then}
+use Rattle.std.specs.Prelude.{◌≡◌, ℕ, zero, suc, ◌<◌, nat_lt, Bool, true, false, List, [], ◌∷◌, ◌+◌, ◌++◌, length, take, Option, Some, None, is_some, Result, Ok, Err, option_and_then}
 use Rattle.std.specs.List.{AllByRecursion}
 use Rattle.std.proofs.Common.{refl, ap, sym, subst, ◌∙◌, arith, length-append}
 use Rattle.std.proofs.Math.Seq.{take-append_seam, take-append-add}
 use Rattle.vm_base.specs.FirstWrong.{Begins, FirstWrong}
-use Rattle.vm_base.specs.Run.{run, result, IsRead}
+use Rattle.vm_base.specs.Run.{run, result}
 use Rattle.vm_base.proofs.RunLaws.{run-append, Begins-reached}
-use Rattle.mql_lex.specs.declared.group.Many.{Many}
-use Rattle.mql_lex.specs.declared.group.MatchKind.{MatchKind}
 use Rattle.mql_lex.specs.declared.token.TokenKind.{TokenKind}
 use Rattle.mql_lex.specs.declared.token.TokenKind.TheVariants.{Name, Number, Duration, Str, Mark}
 use Rattle.mql_expr.specs.Tree.{Tree}
@@ -18,11 +16,11 @@ use Rattle.mql_lists.specs.declared.progress.Progress.{Progress}
 use Rattle.mql_lists.specs.declared.progress.Progress.TheVariants.{Goes, Done}
 use Rattle.mql_parse.specs.Faults.{is_measure, measures_at, IsBeyond}
 use Rattle.mql_parse.specs.Grammar.{Spells, IsExpr, IsAnyExpr}
-use Rattle.mql_parse.specs.Machine.{State, moved, step, by, final_of, start, Frame, Before, wanted, named, grouped, called, regrouped, names_wanted, in_names, in_braces, primary, window_wanted, window_read, windowed, offset_wanted, offset_back, complete, operated, compared, matched, many_read, with_read, template_wanted, template_named, in_params, template_headed, only, fits, measured, by_wanted, within_part}
+use Rattle.mql_parse.specs.Machine.{State, moved, step, by, final_of, start, Frame, Before, wanted, in_names, in_braces, window_wanted, offset_wanted, offset_back, operated, compared, matched, many_read, in_params, only, fits, by_wanted, within_part}
 use Rattle.mql_parse.specs.Values.{number_of, length_of, is_short}
 use Rattle.mql_parse.specs.declared.fault.Wrong.{Wrong}
 use Rattle.mql_parse.specs.declared.fault.Wrong.TheVariants.{Unexpected, TooDeep, NumberTooWide}
-use Rattle.mql_parse.proofs.Limits.{GoesFree, Loosens, step_loosens, run_free}
+use Rattle.mql_parse.proofs.Limits.{Loosens, step_loosens, run_free}
 use Rattle.mql_parse.proofs.ReadBackFits.{KindFits, WordFits}
 use Rattle.mql_parse.proofs.ReadBackSaid.{name_class, mark_class}
 use Rattle.mql_parse.proofs.ReadingLaws.{spells_read, read_spells}

@@ -1,7 +1,7 @@
 -- The name of a call as it is printed.
 use Rattle.std.specs.Prelude.{◌≡◌, ℕ, List, Option, Some, None}
 use Rattle.std.specs.Option.{option_map_or}
-use Rattle.std.proofs.Common.{refl, ap, ◌∙◌}
+use Rattle.std.proofs.Common.{refl, ap}
 use Rattle.mql_expr.specs.Canonical.{call_name}
 use Rattle.mql_expr.specs.Names.{rollup_name, aggregate_name, function_name, name_of, known_as}
 use Rattle.mql_expr.specs.declared.names.Rollup.{Rollup}

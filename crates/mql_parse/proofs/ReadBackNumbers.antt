@@ -1,15 +1,15 @@
 -- A number that a text says can be printed.
-use Rattle.std.specs.Prelude.{◌≡◌, ℕ, ◌*◌, ◌/◌, ◌+◌, ◌^◌, ◌==◌, ℤ, pos, ◌+ℤ◌, ◌*ℤ◌, int_le, int_div, int_rem, unsigned_abs, Bool, true, false, List, [], ◌∷◌, ◌++◌, slice_index, codes, Option, Some, None, Result, Ok, Err, is_some, if◌then◌else◌}
+use Rattle.std.specs.Prelude.{◌≡◌, ℕ, ◌*◌, ◌/◌, ◌^◌, ◌==◌, ℤ, pos, ◌+ℤ◌, ◌*ℤ◌, int_le, int_div, int_rem, unsigned_abs, Bool, true, false, List, ◌++◌, slice_index, Option, Some, None, Result, Ok, Err, is_some, if◌then◌else◌}
 use Rattle.std.specs.Int.{is_negative}
 use Rattle.std.specs.Option.{option_and_then}
 use Rattle.std.specs.Ordering.{int_eq}
 use Rattle.std.proofs.Common.{refl, ap, sym, subst, ◌∙◌, arith}
 use Rattle.std.proofs.Math.IntN.{pos-*ℤ-pos}
 use Rattle.std.proofs.lemmas.Bool.Decides.{nat_tests}
-use Rattle.vm_base.specs.Number.{Form, form_of, scaled, signed, stripped}
+use Rattle.vm_base.specs.Number.{Form, form_of, signed, stripped}
 use Rattle.vm_decimal.specs.Dec.{is_dec, in_range, dec_of}
-use Rattle.vm_decimal.specs.DecText.{dec_reading, dec_value, SaysNumber}
-use Rattle.vm_decimal.specs.Spelled.{Spelled, IsNumber as IsNumberText, IsSign}
+use Rattle.vm_decimal.specs.DecText.{dec_reading, SaysNumber}
+use Rattle.vm_decimal.specs.Spelled.{IsSign}
 use Rattle.vm_decimal.specs.declared.sample_text.NumFault.{NumFault}
 use Rattle.vm_decimal.proofs.DecReadings.{DecSays, dec_says}
 use Rattle.mql_lex.specs.Grammar.{IsUnsigned, is_sign}

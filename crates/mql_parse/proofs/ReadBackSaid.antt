@@ -1,10 +1,10 @@
 -- What a text says can be printed, and be said again.
-use Rattle.std.specs.Prelude.{◌≡◌, ◌⊎◌, ℕ, zero, suc, ◌+◌, ◌<◌, ◌≤◌, ◌^◌, ◌-ℤ◌, pos, unsigned_abs, not, Bool, true, false, cond, List, [], ◌∷◌, length, All, bytes_eq, Option, Some, None, is_some, ⊤}
+use Rattle.std.specs.Prelude.{◌≡◌, ◌⊎◌, ℕ, suc, ◌+◌, ◌<◌, ◌^◌, Bool, true, false, cond, List, [], ◌∷◌, length, All, bytes_eq, Option, Some, None}
 use Rattle.std.specs.List.{AllByRecursion, list_all}
 use Rattle.std.specs.Str.{str_eq_ignore_ascii_case}
-use Rattle.std.proofs.Common.{refl, ap, sym, subst, ◌∙◌, inl, inr, ⊎_elim, arith}
+use Rattle.std.proofs.Common.{refl, sym, subst, inl, inr, ⊎_elim, arith}
 use Rattle.std.proofs.lemmas.Bool.{and_parts}
-use Rattle.mql_lex.specs.Grammar.{IsToken, IsUnsigned}
+use Rattle.mql_lex.specs.Grammar.{IsToken}
 use Rattle.mql_lex.specs.Tokens.{AreTokens, StandsIn, AreInOrder}
 use Rattle.mql_lex.specs.declared.group.Group.{Group}
 use Rattle.mql_lex.specs.declared.group.Many.{Many}
@@ -22,15 +22,15 @@ use Rattle.mql_expr.specs.Lexed.{IsName, AreNames, IsItem, HasItems, AreLists, I
 use Rattle.mql_expr.specs.Tree.{Tree, trees_of, TreeTemplate, templates_listed}
 use Rattle.mql_expr.specs.declared.expr.Param.{Param}
 use Rattle.mql_expr.specs.declared.item.Item.{Item}
-use Rattle.mql_lists.specs.Classes.{class_of_kind, class_of_name, class_of_mark, class_of_word, class_in, reserved_words, mark_words}
+use Rattle.mql_lists.specs.Classes.{class_of_kind, class_of_name, class_of_mark, class_in, reserved_words, mark_words}
 use Rattle.mql_lists.specs.Grammar.{IsLabel, Names, no_names, last_name, next_name, Params, no_params, some_params, SomeParams, last_param, next_param, OneItem, a_filter, a_name, OneList, last_item, last_comma, next_item, SomeLists, last_list, next_list, Braces, no_items, some_lists}
 use Rattle.mql_lists.specs.Words.{Word, words_of}
 use Rattle.mql_lists.specs.declared.class.Class.{Class}
 use Rattle.mql_lists.specs.declared.class.Class.TheVariants.{Identifier, Strange}
 use Rattle.mql_lists.proofs.RoleLaws.{role_free, label_says}
-use Rattle.mql_parse.specs.Grammar.{Is, is_comparison, NumberFits, LengthFits, ListedNames, in_parens, GroupIfAny, no_group, a_group, KeepIfAny, no_keep, a_keep, TruthIfAny, no_truth, a_truth, ManyIfAny, no_many, a_many, many_names, matching, Mods, no_mods, some_mods, Offset, an_offset, offset_back, OffsetIfAny, no_offset, some_offset, Postfix, windowed, not_windowed, ParamsIfAny, no_params as no_parens, some_params as some_parens, Reads, looser, an_operator, a_minus, a_plus, a_primary, a_postfix, a_with, Primary, a_number, a_string, in_brackets, a_call, a_metric, a_selector, a_nameless, Args, no_args, last_arg, next_arg, Template, a_template, Templates, no_template, last_template, more_templates, Spells}
+use Rattle.mql_parse.specs.Grammar.{Is, is_comparison, ListedNames, in_parens, GroupIfAny, no_group, a_group, KeepIfAny, no_keep, a_keep, TruthIfAny, no_truth, a_truth, ManyIfAny, no_many, a_many, many_names, Mods, no_mods, some_mods, Offset, an_offset, offset_back, OffsetIfAny, no_offset, some_offset, Postfix, windowed, not_windowed, ParamsIfAny, no_params as no_parens, some_params as some_parens, Reads, looser, an_operator, a_minus, a_plus, a_primary, a_postfix, a_with, Primary, a_number, a_string, in_brackets, a_call, a_metric, a_selector, a_nameless, Args, no_args, last_arg, next_arg, Template, a_template, Templates, no_template, last_template, more_templates}
 use Rattle.mql_parse.specs.ReadBack.{IsFree, IsFreeItem, IsAhead, IsBack, IsRange, IsMany, IsMatching, IsSaid, AreSaid, AreSaidBindings, TextIsSaid}
-use Rattle.mql_parse.specs.Values.{Length, number_of, length_of, is_short, ahead, back}
+use Rattle.mql_parse.specs.Values.{length_of, ahead}
 use Rattle.mql_parse.proofs.ReadBackNumbers.{number_printed}
 use Rattle.mql_parse.proofs.ReadBackSpans.{short_ms, short_steps, size_back}
 

@@ -1,16 +1,15 @@
 -- The text of a span says its length.
-use Rattle.std.specs.Prelude.{◌≡◌, ◌⊎◌, ℕ, zero, suc, ◌+◌, ◌-◌, ◌*◌, ◌/◌, ◌%◌, ◌^◌, ◌<◌, ◌==◌, ◌&&◌, ◌||◌, nat_lt, ℤ, pos, ◌-ℤ◌, int_lt, unsigned_abs, Bool, true, false, List, [], ◌∷◌, ◌++◌, length, codes, if◌then◌else◌}
+use Rattle.std.specs.Prelude.{◌≡◌, ℕ, zero, suc, ◌+◌, ◌-◌, ◌*◌, ◌^◌, ◌<◌, ◌==◌, ◌&&◌, ◌||◌, nat_lt, pos, ◌-ℤ◌, int_lt, unsigned_abs, Bool, true, false, List, [], ◌∷◌, ◌++◌, length, codes, if◌then◌else◌}
 use Rattle.std.specs.Char.{is_ascii_digit, digit_value}
 use Rattle.std.specs.Fmt.{decimal}
-use Rattle.std.specs.Str.Parse.{digits_value, digits_value_after}
-use Rattle.std.proofs.Common.{refl, ap, sym, ◌∙◌, append_assoc, append-nil, arith}
+use Rattle.std.specs.Str.Parse.{digits_value_after}
+use Rattle.std.proofs.Common.{refl, ap, sym, ◌∙◌, append_assoc, arith}
 use Rattle.std.proofs.Math.Nat.{zero-mul}
 use Rattle.std.proofs.lemmas.Bool.{eqb-true, and_parts}
 use Rattle.std.proofs.lemmas.Bool.Decides.{nat_tests}
 use Rattle.std.proofs.lemmas.Int.{ints}
 use Rattle.vm_decimal.specs.Spelled.{IsDigits}
-use Rattle.vm_decimal.proofs.PrintedTexts.{Decimal, decimal_of}
-use Rattle.mql_lex.specs.declared.span.Span.{Span}
+use Rattle.vm_decimal.proofs.PrintedTexts.{decimal_of}
 use Rattle.mql_expr.specs.Spans.{count_text, ms_text, size_text, span_text, is_negative}
 use Rattle.mql_expr.proofs.SpanTexts.{IsUnit, days, hours, minutes, seconds, milliseconds, ms_counted}
 use Rattle.mql_parse.specs.Values.{Length, some_ms, begins_with, unit_at, times, plus, length_behind, length_of, is_short, ahead, back}

@@ -1,247 +1,29 @@
 -- What is printed of a tree is read as the same tree.
-use Rattle.std.specs.Prelude.{◌≡◌, ◌⊎◌, ℕ, zero, suc, ◌+◌, ◌-◌, ◌<◌, ◌≤◌, nat_lt, Bool, true, false, List, [], ◌∷◌, ◌++◌, map, flat_map, codes, Option, Some, None, ℤ, Ok, if◌then◌else◌}
+use Rattle.std.specs.Prelude.{◌≡◌, ℕ, suc, ◌≤◌, Bool, true, false, List, [], ◌∷◌, ◌++◌, map, flat_map, codes, Option, Some, None, ℤ}
 use Rattle.std.specs.List.{AllByRecursion}
-use Rattle.std.proofs.Common.{refl, ap, sym, subst, ◌∙◌, arith, ⊎_elim}
-use Rattle.std.proofs.lemmas.Bool.Decides.{nat_tests}
-use Rattle.vm_decimal.specs.Dec.{is_dec}
+use Rattle.std.proofs.Common.{refl, ap, ◌∙◌, arith}
 use Rattle.vm_decimal.specs.NumberText.{number_text}
-use Rattle.vm_decimal.proofs.PrintedTexts.{printed_read}
 use Rattle.mql_lex.specs.declared.group.Group.{Group}
 use Rattle.mql_lex.specs.declared.group.Matching.{Matching}
 use Rattle.mql_lex.specs.declared.operator.Op.{Op}
-use Rattle.mql_lex.specs.declared.operator.Op.TheVariants.{Default}
 use Rattle.mql_lex.specs.declared.span.Span.{Span}
-use Rattle.mql_lex.specs.declared.token.TokenKind.TheVariants.{Name, Number, Duration, Str, Mark}
-use Rattle.mql_expr.specs.Canonical.{Piece, blank, word, mark, named, parted, when, string_text, span_pieces, window_pieces, offset_pieces, call_name, before_pieces, after_pieces, keep_pieces, operator_pieces, params_pieces, in_parentheses, operand, binding, pieces, arguments, bindings}
+use Rattle.mql_lex.specs.declared.token.TokenKind.TheVariants.{Name, Number, Str, Mark}
+use Rattle.mql_expr.specs.Canonical.{Piece, blank, mark, parted, string_text, window_pieces, offset_pieces, call_name, before_pieces, after_pieces, keep_pieces, operator_pieces, params_pieces, in_parentheses, operand, binding, pieces, arguments, bindings}
 use Rattle.mql_expr.specs.Levels.{level_of, level_of_op}
 use Rattle.mql_expr.specs.Lexed.{IsNumber, IsPrinted, ArePrinted, AreBindings}
-use Rattle.mql_expr.specs.Spans.{is_negative, span_text}
 use Rattle.mql_expr.specs.Tree.{Tree, Trees, Templates, number, string, select, ranged, call, binary, negate, with_templates, no_trees, next_tree, no_templates, next_template, trees_of, TreeTemplate, templates_listed}
 use Rattle.mql_expr.specs.declared.expr.Param.{Param}
 use Rattle.mql_lists.specs.Values.{value_of}
 use Rattle.mql_lists.specs.Words.{Word}
 use Rattle.mql_lists.specs.declared.class.Class.{Class}
-use Rattle.mql_parse.specs.Grammar.{Is, is_comparison, MayOpen, LengthFits, NumberFits, Offset, an_offset, offset_back as a_back, OffsetIfAny, no_offset, some_offset, Postfix, windowed, not_windowed, Reads, looser, an_operator, a_minus, a_primary, a_postfix, a_with, Primary, a_number, a_string, in_brackets, a_call, Args, no_args, last_arg, next_arg, Template, a_template, Templates as GrammarTemplates, no_template, last_template, more_templates, Spells, GroupIfAny, KeepIfAny}
-use Rattle.mql_parse.specs.ReadBack.{Same, placeless, placeless_trees, placeless_templates, placeless_param, first_group, last_group, IsFree, IsAhead, IsBack, IsRange, IsMatching, IsSaid, AreSaid, AreSaidBindings}
-use Rattle.mql_parse.specs.Values.{Length, number_of, or_none, or_zero, length_of, is_short, ahead, back}
-use Rattle.mql_parse.proofs.ReadBackItems.{string_says, PrimaryRead, select_back}
+use Rattle.mql_parse.specs.Grammar.{Is, is_comparison, Reads, looser, an_operator, a_minus, a_postfix, a_with, a_number, a_string, a_call, Args, no_args, last_arg, next_arg, Template, a_template, Templates as GrammarTemplates, no_template, last_template, more_templates, Spells, GroupIfAny, KeepIfAny}
+use Rattle.mql_parse.specs.ReadBack.{Same, placeless, placeless_trees, placeless_templates, placeless_param, first_group, last_group, IsFree, IsRange, IsMatching, IsSaid, AreSaid, AreSaidBindings}
+use Rattle.mql_parse.specs.Values.{number_of, or_zero}
+use Rattle.mql_parse.proofs.ReadBackItems.{string_says, select_back}
 use Rattle.mql_parse.proofs.ReadBackNames.{call_name_free, call_name_again}
-use Rattle.mql_parse.proofs.ReadBackSpans.{ahead_sign, ahead_says, back_says, back_sign}
-use Rattle.mql_parse.proofs.ReadBackWords.{Stand, no_piece, a_blank, a_word, word_at, Split, split, is_open, is_close, is_open_square, is_close_square, is_comma, is_assign, is_minus, is_with, is_offset, ParamsRead, params_back, before_back, after_back, keep_back, OperatorRead, operator_read, operator_back}
-
--- ---- no limit binds
-
-abbrev outside : {A : Type 0} (at : ℕ) → at < 0 → A
-outside at low = absurd (omega arith)
-
--- ---- numbers
-
-number_says : (z : ℤ) → is_dec z ≡ true → or_zero (number_of (number_text z)) ≡ z
-unfolding number_of
-number_says z is = ap (λ r. or_zero (or_none r)) (printed_read z is)
-
--- ---- windows and offsets
-
--- what a span's word says, where it has a sign and where it has none
-ahead_word : (span : Span) → IsAhead span → (is_negative span ≡ false) × (ahead (length_of (span_text span)) ≡ span)
-ahead_word span is = (ap is_negative is.2 ∙ ahead_sign is.0, ap (λ s. ahead (length_of (span_text s))) is.2 ∙ ap ahead (ahead_says is.0 is.1) ∙ sym is.2)
-
-back_word : (span : Span) → IsBack span → back (length_of (span_text span)) ≡ span
-back_word span is = ap (λ s. back (length_of (span_text s))) is.2 ∙ ap back (back_says is.0 is.1) ∙ sym is.2
-
--- a span that could go back, without a sign
-back_nothing : (span : Span) → IsBack span → is_negative span ≡ false → ahead (length_of (span_text span)) ≡ span
-back_nothing span is apart =
-    let none = back_sign is.0 (ap is_negative (sym is.2) ∙ apart) in
-    ap (λ s. ahead (length_of (span_text s))) is.2
-    ∙ ap ahead (back_says is.0 is.1)
-    ∙ ap ahead none ∙ ap back (sym none) ∙ sym is.2
-
-record OffsetRead (span : Span) (ws rest : List Word) : Type 0 where
-  at : ℕ
-  reads : Offset 0 at ws rest span
-
-module _ (span : Span) where
-  signless : IsAhead span ⊎ IsBack span → is_negative span ≡ false → ahead (length_of (span_text span)) ≡ span
-  signless is none = ⊎_elim (λ a. (ahead_word span a).1) (λ b. back_nothing span b none) is
-
-  signed : IsAhead span ⊎ IsBack span → is_negative span ≡ true → back (length_of (span_text span)) ≡ span
-  signed is some = ⊎_elim (λ a. absurd (cc (some, (ahead_word span a).0))) (λ b. back_word span b) is
-
-  behind_offset : (at : ℕ) → IsAhead span ⊎ IsBack span → (b : Bool) → is_negative span ≡ b → (more rest : List Word)
-      → Stand (when b (mark (codes "-") ∷ []) ++ word Duration (span_text span) ∷ []) more rest
-      → OffsetRead span (word_at at Name (codes "offset") ∷ more) rest
-  behind_offset at is true some more rest (a_word m (a_word d no_piece)) = record {
-    at = at;
-    reads = subst (Offset 0 at (word_at at Name (codes "offset") ∷ word_at m Mark (codes "-") ∷ word_at d Duration (span_text span) ∷ rest) rest) (signed is some)
-      (a_back (word_at at Name (codes "offset")) (word_at m Mark (codes "-")) (word_at d Duration (span_text span)) (is_offset at) (is_minus m) refl (outside d));
-  }
-  behind_offset at is false none more rest (a_word d no_piece) = record {
-    at = at;
-    reads = subst (Offset 0 at (word_at at Name (codes "offset") ∷ word_at d Duration (span_text span) ∷ rest) rest) (signless is none)
-      (an_offset (word_at at Name (codes "offset")) (word_at d Duration (span_text span)) (is_offset at) refl (outside d));
-  }
-
-  offset_back : IsAhead span ⊎ IsBack span → (ws rest : List Word) → Stand (offset_pieces (Some span)) ws rest → OffsetRead span ws rest
-  offset_back is ws rest (a_blank (a_word {ws = more} at (a_blank all))) = behind_offset at is (is_negative span) refl more rest all
-
-  in_squares : (at : ℕ) (offset : Option Span) → IsAhead span → (rest : List Word) → (b : Bool) → is_negative span ≡ b → (more mid : List Word)
-      → Stand ((when b (mark (codes "-") ∷ []) ++ word Duration (span_text span) ∷ []) ++ mark (codes "]") ∷ []) more mid → OffsetIfAny 0 mid rest offset
-      → Postfix 0 at (word_at at Mark (codes "[") ∷ more) rest (Some span) offset
-  in_squares at offset is rest true some more mid all behind = absurd (cc (some, (ahead_word span is).0))
-  in_squares at offset is rest false none more mid (a_word d (a_word e no_piece)) behind =
-      subst (λ s. Postfix 0 at (word_at at Mark (codes "[") ∷ word_at d Duration (span_text span) ∷ word_at e Mark (codes "]") ∷ mid) rest (Some s) offset) (ahead_word span is).1
-      (windowed (word_at at Mark (codes "[")) (word_at d Duration (span_text span)) (word_at e Mark (codes "]")) (is_open_square at) refl (outside d) (is_close_square e) behind)
-
-  -- a window with whatever stands behind it
-  window_back : (offset : Option Span) → IsAhead span → (ws mid rest : List Word) → Stand (window_pieces (Some span)) ws mid
-      → OffsetIfAny 0 mid rest offset → (at : ℕ) × Postfix 0 at ws rest (Some span) offset
-  window_back offset is ws mid rest (a_word {ws = more} at all) behind = (at, in_squares at offset is rest (is_negative span) refl more mid all behind)
-
-record PostfixRead (window offset : Option Span) (ws rest : List Word) : Type 0 where
-  at : ℕ
-  reads : Postfix 0 at ws rest window offset
-
-postfix_back : (window offset : Option Span) → IsRange window offset → (ws mid rest : List Word) → Stand (window_pieces window) ws mid
-    → Stand (offset_pieces offset) mid rest → PostfixRead window offset ws rest
-postfix_back None None is ws mid rest first second = absurd is
-postfix_back None (Some span) is ws mid rest no_piece second =
-    let o = offset_back span is mid rest second in
-    record { at = o.at; reads = not_windowed o.reads }
-postfix_back (Some window) None is ws mid rest first no_piece =
-    let w = window_back window None is ws mid mid first no_offset in
-    record { at = w.0; reads = w.1 }
-postfix_back (Some window) (Some span) is ws mid rest first second =
-    let o = offset_back span is.1 mid rest second in
-    let w = window_back window (Some span) is.0 ws mid rest first (some_offset o.reads) in
-    record { at = w.0; reads = w.1 }
-
--- ---- trees
-
--- what is read of a tree's own words: how far it reaches and how closely it binds
-abbrev Own : Tree → (n : ℕ) → List Word → List Word → Tree → Type 0
-Own (with_templates at ts body) n ws rest u = Reads 0 n 9 true ws rest u
-Own (binary at op truth m left right) n ws rest u = Reads 0 n (level_of_op op) false ws rest u
-Own (negate at inner) n ws rest u = Reads 0 n 8 false ws rest u
-Own (ranged at inner window offset) n ws rest u = Reads 0 n 9 false ws rest u
-Own _ n ws rest u = Primary 0 n ws rest u
-
-record TreeRead (t : Tree) (ws rest : List Word) : Type 0 where
-  tree : Tree
-  same : Same tree t
-  reads : (n : ℕ) → Own t n ws rest tree
-
-abbrev Back : Tree → Type 0
-Back t = (ws rest : List Word) → Stand (pieces t) ws rest → TreeRead t ws rest
-
-from_primary : (k l n : ℕ) (ws rest : List Word) (u : Tree) → l + k ≡ 9 → Primary 0 n ws rest u → Reads 0 n l false ws rest u
-from_primary zero l n ws rest u is reads = subst (λ m. Reads 0 n m false ws rest u) (omega arith) (a_primary reads)
-from_primary (suc k) l n ws rest u is reads = looser (from_primary k (suc l) n ws rest u (omega arith) reads)
-
-loosened : (k l m n : ℕ) (o : Bool) (ws rest : List Word) (u : Tree) → l + k ≡ m → Reads 0 n m o ws rest u → Reads 0 n l o ws rest u
-loosened zero l m n o ws rest u is reads = subst (λ j. Reads 0 n j o ws rest u) (omega arith) reads
-loosened (suc k) l m n o ws rest u is reads = looser (loosened k (suc l) m n o ws rest u (omega arith) reads)
-
--- at any level that the tree binds as closely as
-at_level : (t : Tree) (least n : ℕ) (ws rest : List Word) (u : Tree) → least ≤ 9 → 0 < least → nat_lt (level_of t) least ≡ false → Own t n ws rest u
-    → Reads 0 n least false ws rest u
-at_level (number at z) least n ws rest u low some as_close own = from_primary (9 - least) least n ws rest u (omega arith) own
-at_level (string at text) least n ws rest u low some as_close own = from_primary (9 - least) least n ws rest u (omega arith) own
-at_level (select at name lists) least n ws rest u low some as_close own = from_primary (9 - least) least n ws rest u (omega arith) own
-at_level (call at name args before after keep) least n ws rest u low some as_close own = from_primary (9 - least) least n ws rest u (omega arith) own
-at_level (ranged at inner window offset) least n ws rest u low some as_close own = loosened (9 - least) least 9 n false ws rest u (omega arith) own
-at_level (negate at inner) least n ws rest u low some as_close own =
-    let closer : least ≤ 8 = grind (arith, nat_tests) in
-    loosened (8 - least) least 8 n false ws rest u (omega arith) own
-at_level (binary at op truth m left right) least n ws rest u low some as_close own =
-    let level = level_of_op op in
-    let closer : least ≤ level = grind (arith, nat_tests) in
-    loosened (level - least) least level n false ws rest u (omega arith) own
-at_level (with_templates at ts body) least n ws rest u low some as_close own = absurd (grind (arith, nat_tests))
-
--- at the loosest level, with or without the body of a WITH at the end
-record AnyRead (n : ℕ) (ws rest : List Word) (u : Tree) : Type 0 where
-  open_end : Bool
-  reads : Reads 0 n 0 open_end ws rest u
-
-few_levels : (op : Op) → level_of_op op ≤ 8
-few_levels Default = omega arith
-few_levels _ = omega arith
-
-some_level : (op : Op) → 0 < level_of_op op
-some_level Default = omega arith
-some_level _ = omega arith
-
-at_any : (t : Tree) (n : ℕ) (ws rest : List Word) (u : Tree) → Own t n ws rest u → AnyRead n ws rest u
-at_any (number at z) n ws rest u own = record { open_end = false; reads = from_primary 9 0 n ws rest u refl own }
-at_any (string at text) n ws rest u own = record { open_end = false; reads = from_primary 9 0 n ws rest u refl own }
-at_any (select at name lists) n ws rest u own = record { open_end = false; reads = from_primary 9 0 n ws rest u refl own }
-at_any (call at name args before after keep) n ws rest u own = record { open_end = false; reads = from_primary 9 0 n ws rest u refl own }
-at_any (ranged at inner window offset) n ws rest u own = record { open_end = false; reads = loosened 9 0 9 n false ws rest u refl own }
-at_any (negate at inner) n ws rest u own = record { open_end = false; reads = loosened 8 0 8 n false ws rest u refl own }
-at_any (binary at op truth m left right) n ws rest u own =
-    record { open_end = false; reads = loosened (level_of_op op) 0 (level_of_op op) n false ws rest u (omega arith) own }
-at_any (with_templates at ts body) n ws rest u own = record { open_end = true; reads = loosened 9 0 9 n true ws rest u refl own }
-
--- where it is no operator, no sign and no WITH, and has no window
-as_primary : (t : Tree) (n : ℕ) (ws rest : List Word) (u : Tree) → nat_lt (level_of t) 10 ≡ false → Own t n ws rest u → Primary 0 n ws rest u
-as_primary (number at z) n ws rest u as_close own = own
-as_primary (string at text) n ws rest u as_close own = own
-as_primary (select at name lists) n ws rest u as_close own = own
-as_primary (call at name args before after keep) n ws rest u as_close own = own
-as_primary (ranged at inner window offset) n ws rest u as_close own = absurd (cc as_close)
-as_primary (negate at inner) n ws rest u as_close own = absurd (cc as_close)
-as_primary (binary at op truth m left right) n ws rest u as_close own =
-    let low : level_of_op op ≤ 8 = few_levels op in
-    let below : nat_lt (level_of_op op) 10 ≡ true = grind (arith, nat_tests) in
-    absurd (cc (below, as_close))
-as_primary (with_templates at ts body) n ws rest u as_close own = absurd (cc as_close)
-
--- ---- operands
-
-rounds_end : (t : Tree) (at : ℕ) (more mid rest : List Word) → TreeRead t more mid → Stand (mark (codes ")") ∷ []) mid rest
-    → PrimaryRead t (word_at at Mark (codes "(") ∷ more) rest
-rounds_end t at more mid rest r (a_word end no_piece) = record {
-  tree = r.tree;
-  same = r.same;
-  reads = λ n.
-    in_brackets (word_at at Mark (codes "(")) (word_at end Mark (codes ")")) (is_open at) (outside at)
-    (at_any t (suc n) more (word_at end Mark (codes ")") ∷ rest) r.tree (r.reads (suc n))).reads (is_close end);
-}
-
--- in parentheses
-in_rounds : (t : Tree) → Back t → (ws rest : List Word) → Stand (mark (codes "(") ∷ (pieces t ++ mark (codes ")") ∷ [])) ws rest → PrimaryRead t ws rest
-in_rounds t inside ws rest (a_word {ws = more} at all) =
-    let s = split (pieces t) (mark (codes ")") ∷ []) more rest all in
-    rounds_end t at more s.mid rest (inside more s.mid s.front) s.behind
-
-record LevelRead (t : Tree) (level : ℕ) (ws rest : List Word) : Type 0 where
-  tree : Tree
-  same : Same tree t
-  reads : (n : ℕ) → Reads 0 n level false ws rest tree
-
-module _ (t : Tree) (inside : Back t) where
-  operand_back : (least : ℕ) → least ≤ 9 → 0 < least → (ws rest : List Word) → Stand (operand least (level_of t) (pieces t)) ws rest → LevelRead t least ws rest
-  operand_back least low some ws rest all = go (nat_lt (level_of t) least) refl all
-    where
-      go : (b : Bool) → nat_lt (level_of t) least ≡ b → Stand (if b then mark (codes "(") ∷ pieces t ++ mark (codes ")") ∷ [] else pieces t) ws rest
-          → LevelRead t least ws rest
-      go true is stands =
-          let r = in_rounds t inside ws rest stands in
-          record { tree = r.tree; same = r.same; reads = λ n. from_primary (9 - least) least n ws rest r.tree (omega arith) (r.reads n) }
-      go false is stands =
-          let r = inside ws rest stands in
-          record { tree = r.tree; same = r.same; reads = λ n. at_level t least n ws rest r.tree low some is (r.reads n) }
-
-  primary_back : (ws rest : List Word) → Stand (operand 10 (level_of t) (pieces t)) ws rest → PrimaryRead t ws rest
-  primary_back ws rest all = go (nat_lt (level_of t) 10) refl all
-    where
-      go : (b : Bool) → nat_lt (level_of t) 10 ≡ b → Stand (if b then mark (codes "(") ∷ pieces t ++ mark (codes ")") ∷ [] else pieces t) ws rest
-          → PrimaryRead t ws rest
-      go true is stands = in_rounds t inside ws rest stands
-      go false is stands =
-          let r = inside ws rest stands in
-          record { tree = r.tree; same = r.same; reads = λ n. as_primary t n ws rest r.tree is (r.reads n) }
+use Rattle.mql_parse.proofs.ReadBackWords.{Stand, no_piece, a_blank, a_word, word_at, split, is_open, is_close, is_comma, is_assign, is_minus, is_with, ParamsRead, params_back, before_back, after_back, keep_back, OperatorRead, operator_read, operator_back}
+use Rattle.mql_parse.proofs.ReadBackLevels.{TreeRead, Back, at_any, few_levels, some_level, LevelRead, operand_back, primary_back}
+use Rattle.mql_parse.proofs.ReadBackRanges.{outside, number_says, postfix_back}
 
 -- ---- nodes of one part or two
 
@@ -394,12 +176,12 @@ module _ (place : ℕ) (name : List ℕ) (ts : Trees) (before after : Option Gro
       record {
         tree = call at (call_name name) (trees_of found) front back_group keep;
         same =
-          ap (λ x. call 0 x (placeless_trees (trees_of found)) (first_group front back_group) (last_group front back_group) keep) (call_name_again name)
-          ∙ ap (λ x. call 0 (call_name name) x (first_group front back_group) (last_group front back_group) keep) same
-          ∙ ap (λ x. call 0 (call_name name) (placeless_trees ts) x (last_group front back_group) keep) (first_again before after)
-          ∙ ap (λ x. call 0 (call_name name) (placeless_trees ts) front x keep) (last_again before after);
+            ap (λ x. call 0 x (placeless_trees (trees_of found)) (first_group front back_group) (last_group front back_group) keep) (call_name_again name)
+            ∙ ap (λ x. call 0 (call_name name) x (first_group front back_group) (last_group front back_group) keep) same
+            ∙ ap (λ x. call 0 (call_name name) (placeless_trees ts) x (last_group front back_group) keep) (first_again before after)
+            ∙ ap (λ x. call 0 (call_name name) (placeless_trees ts) front x keep) (last_again before after);
         reads = λ n.
-          a_call (word_at at Name (call_name name)) p e (call_name_free name free) group opens (outside p.at) (reads (suc n)) closes other keeps;
+            a_call (word_at at Name (call_name name)) p e (call_name_free name free) group opens (outside p.at) (reads (suc n)) closes other keeps;
       }
 
   call_back : BackArgs ts → Back (call place name ts before after keep)
@@ -418,7 +200,7 @@ module _ (place : ℕ) (name : List ℕ) (ts : Trees) (before after : Option Gro
 record TemplateRead (name : List ℕ) (params : List Param) (body : Tree) (ws rest : List Word) : Type 0 where
   found : TreeTemplate
   same : (others more : Templates) → placeless_templates others ≡ more
-    → placeless_templates (next_template found.at found.name found.params found.body others) ≡ next_template 0 name (map placeless_param params) (placeless body) more
+      → placeless_templates (next_template found.at found.name found.params found.body others) ≡ next_template 0 name (map placeless_param params) (placeless body) more
   reads : (n : ℕ) → Template 0 n ws rest found
 
 abbrev binding_pieces : List ℕ → List Param → Tree → List Piece
@@ -433,9 +215,9 @@ module _ (name : List ℕ) (params : List Param) (body : Tree) (inside : Back bo
       record {
         found = record { at = at; name = name; params = ps.found; body = r.tree };
         same = λ others later is.
-          ap (λ x. next_template 0 name x (placeless r.tree) (placeless_templates others)) ps.same
-          ∙ ap (λ x. next_template 0 name (map placeless_param params) x (placeless_templates others)) r.same
-          ∙ ap (next_template 0 name (map placeless_param params) (placeless body)) is;
+            ap (λ x. next_template 0 name x (placeless r.tree) (placeless_templates others)) ps.same
+            ∙ ap (λ x. next_template 0 name (map placeless_param params) x (placeless_templates others)) r.same
+            ∙ ap (next_template 0 name (map placeless_param params) (placeless body)) is;
         reads = λ n. a_template (word_at at Name name) (word_at e Mark (codes "=")) free ps.reads (is_assign e) (looser (r.reads n));
       }
 
@@ -498,8 +280,8 @@ module _ (place : ℕ) (ts : Templates) (body : Tree) (inside : BackTemplates ts
     tree = with_templates at (templates_listed all.found) r.tree;
     same = ap (λ x. with_templates 0 x (placeless r.tree)) all.same ∙ ap (with_templates 0 (placeless_templates ts)) r.same;
     reads = λ n.
-      a_with (word_at at Name (codes "WITH")) (word_at p Mark (codes "(")) (word_at e Mark (codes ")")) (is_with at) (is_open p) (outside p)
-      (all.reads (suc n)) (is_close e) (looser (r.reads n));
+        a_with (word_at at Name (codes "WITH")) (word_at p Mark (codes "(")) (word_at e Mark (codes ")")) (is_with at) (is_open p) (outside p)
+        (all.reads (suc n)) (is_close e) (looser (r.reads n));
   }
 
   with_body : (at : ℕ) (more mid rest : List Word) → Stand (in_parentheses (bindings ts)) more mid

@@ -1,8 +1,7 @@
 -- Words that stand for pieces, and what the parts without expressions read of them.
 use Rattle.std.specs.Prelude.{◌≡◌, ℕ, Bool, true, false, List, [], ◌∷◌, ◌++◌, map, flat_map, codes, Option, Some, None, if◌then◌else◌}
 use Rattle.std.specs.List.{AllByRecursion}
-use Rattle.std.proofs.Common.{refl, ap, sym, subst, ◌∙◌}
-use Rattle.mql_lex.specs.Tokens.{slice_of}
+use Rattle.std.proofs.Common.{refl, ap, sym, subst}
 use Rattle.mql_lex.specs.declared.group.Group.{Group}
 use Rattle.mql_lex.specs.declared.group.Many.{Many}
 use Rattle.mql_lex.specs.declared.group.Many.TheVariants.{One, Left, Right}
@@ -14,12 +13,12 @@ use Rattle.mql_lex.specs.declared.operator.Op.TheVariants.{Default, If, IfNot, O
 use Rattle.mql_lex.specs.declared.token.Token.{Token}
 use Rattle.mql_lex.specs.declared.token.TokenKind.{TokenKind}
 use Rattle.mql_lex.specs.declared.token.TokenKind.TheVariants.{Name, Mark}
-use Rattle.mql_expr.specs.Canonical.{Piece, blank, word, mark, named, parted, parted_names, names_pieces, group_pieces, before_pieces, after_pieces, keep_pieces, op_piece, truth_pieces, modifier, kind_pieces, many_pieces, matching_pieces, operator_pieces, params_pieces}
+use Rattle.mql_expr.specs.Canonical.{Piece, blank, word, mark, named, names_pieces, group_pieces, before_pieces, after_pieces, keep_pieces, op_piece, truth_pieces, kind_pieces, many_pieces, matching_pieces, operator_pieces, params_pieces}
 use Rattle.mql_expr.specs.Lexed.{words, spelled}
 use Rattle.mql_expr.specs.declared.expr.Param.{Param}
-use Rattle.mql_lists.specs.Classes.{class_of_kind, class_of_name, class_of_mark, class_of_word}
-use Rattle.mql_lists.specs.Grammar.{Names, no_names, last_name, next_name, Params, some_params as the_params, SomeParams, last_param, next_param}
-use Rattle.mql_lists.specs.Words.{Word, word_of, words_of}
+use Rattle.mql_lists.specs.Classes.{class_of_name, class_of_mark}
+use Rattle.mql_lists.specs.Grammar.{Names, no_names, last_name, next_name, some_params as the_params, SomeParams, last_param, next_param}
+use Rattle.mql_lists.specs.Words.{Word, words_of}
 use Rattle.mql_lists.specs.declared.class.Class.{Class}
 use Rattle.mql_parse.specs.Grammar.{Is, is_comparison, ListedNames, in_parens, GroupIfAny, no_group, a_group, KeepIfAny, no_keep, a_keep, TruthIfAny, no_truth, a_truth, ManyIfAny, no_many, many_names, matching, Mods, no_mods, some_mods, ParamsIfAny, no_params, some_params}
 use Rattle.mql_parse.specs.ReadBack.{first_group, last_group, placeless_param, IsFree, IsMany, IsMatching}

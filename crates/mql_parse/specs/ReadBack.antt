@@ -1,5 +1,5 @@
 -- What is printed is read back as the same query.
-use Rattle.std.specs.Prelude.{◌≡◌, ◌⊎◌, ℕ, Bool, true, List, [], ◌∷◌, length, map, Option, Some, None, ⊤}
+use Rattle.std.specs.Prelude.{◌≡◌, ◌⊎◌, ℕ, true, List, [], length, map, Option, Some, None, ⊤}
 use Rattle.std.specs.List.{AllByRecursion}
 use Rattle.mql_lex.specs.Tokens.{AreTokens}
 use Rattle.mql_lex.specs.declared.group.Group.{Group}
@@ -7,8 +7,6 @@ use Rattle.mql_lex.specs.declared.group.Many.{Many}
 use Rattle.mql_lex.specs.declared.group.Many.TheVariants.{One}
 use Rattle.mql_lex.specs.declared.group.MatchKind.{MatchKind}
 use Rattle.mql_lex.specs.declared.group.MatchKind.TheVariants.{All}
-use Rattle.mql_lex.specs.declared.group.Matching.{Matching}
-use Rattle.mql_lex.specs.declared.operator.Op.{Op}
 use Rattle.mql_lex.specs.declared.span.Span.{Span}
 use Rattle.mql_lex.specs.declared.token.Token.{Token}
 use Rattle.mql_expr.specs.Canonical.{canonical, call_name}
@@ -19,7 +17,6 @@ use Rattle.mql_expr.specs.declared.item.Item.{Item}
 use Rattle.mql_expr.specs.declared.item.Item.TheVariants.{Is, Named}
 use Rattle.mql_lists.specs.Classes.{class_of_name}
 use Rattle.mql_lists.specs.Words.{Word, words_of}
-use Rattle.mql_lists.specs.declared.class.Class.{Class}
 use Rattle.mql_lists.specs.declared.class.Class.TheVariants.{Identifier}
 use Rattle.mql_parse.specs.Faults.{IsUnexpected, IsBeyond}
 use Rattle.mql_parse.specs.Grammar.{Spells, is_comparison}
@@ -161,3 +158,12 @@ abbrev pub TextIsSaid : Type 0
 TextIsSaid =
     (text : List ℕ) (tokens : List Token) (t : Tree) → AreTokens text tokens
     → Spells (length text) (words_of text tokens) t → IsPrinted t × IsSaid t
+
+-- The same query has the same canonical text, and no other query has it.
+abbrev pub SameText : Type 0
+SameText = (t u : Tree) → Same t u → canonical t ≡ canonical u
+
+abbrev pub OneQuery : Type 0
+OneQuery =
+    (t u : Tree) → IsPrinted t → IsSaid t → IsPrinted u → IsSaid u → canonical t ≡ canonical u
+    → Same t u

@@ -7,7 +7,7 @@ ghost use Rattle.mql_lists.specs.Classes.{class_of_word};
 ghost use Rattle.mql_lists.specs.Words.{Word};
 ghost use Rattle.mql_parse.specs.Faults.{IsUnexpected, IsBeyond};
 ghost use Rattle.mql_parse.specs.Grammar.{Spells};
-ghost use Rattle.mql_parse.specs.ReadBack.{PrintedIsRead, SaidIsRead, TextIsSaid};
+ghost use Rattle.mql_parse.specs.ReadBack.{PrintedIsRead, SaidIsRead, TextIsSaid, SameText, OneQuery};
 ghost use Rattle.mql_parse.specs.Machine.{State, by, step as step_of, final_of, start};
 ghost use Rattle.mql_parse.specs.declared.fault.Wrong.TheVariants.{Unexpected, TooDeep, NumberTooWide};
 
@@ -41,4 +41,10 @@ pub fn what_is_printed_is_read_back()
     ensures of_texts { PrintedIsRead }
     ensures of_trees { SaidIsRead }
     ensures texts_are { TextIsSaid }
+{}
+
+/// Canonical texts are equal where queries are the same, and of what texts can say there alone.
+pub fn canonical_text_is_one_query()
+    ensures same { SameText }
+    ensures apart { OneQuery }
 {}
