@@ -51,9 +51,9 @@ is_no_expression text kind refuses memory short =
     ⊎_elim
     memory
     (λ others. ⊎_elim
-        (λ none. subst (λ o. IsSomeAnd o (λ (re, found). re.depth ≤ default_config.nest_limit)) none short)
-        (λ deep. too_deep (read default_config (chars text)) _ short deep.1)
-        others)
+    (λ none. subst (λ o. IsSomeAnd o (λ (re, found). re.depth ≤ default_config.nest_limit)) none short)
+    (λ deep. too_deep (read default_config (chars text)) _ short deep.1)
+    others)
     refuses
 
 abbrev is_syntax : {A : Type 0} → Result A PatternFault → Bool
@@ -118,6 +118,15 @@ texts_of_match value found captures is =
     let groups = is.2 in
     ap₂ ◌∷◌
     (ap (in_span (captures_haystack captures)) (whole_span captures ∙ ap Some is.1.whole_is))
-    (rw (groups 1 (omega arith), groups 2 (omega arith), groups 3 (omega arith), groups 4 (omega arith), groups 5 (omega arith),
-    groups 6 (omega arith), groups 7 (omega arith), groups 8 (omega arith), groups 9 (omega arith)))
+    (rw (
+      groups 1 (omega arith),
+      groups 2 (omega arith),
+      groups 3 (omega arith),
+      groups 4 (omega arith),
+      groups 5 (omega arith),
+      groups 6 (omega arith),
+      groups 7 (omega arith),
+      groups 8 (omega arith),
+      groups 9 (omega arith),
+    ))
     ∙ ap (λ hay. group_texts hay found) is.0

@@ -17,7 +17,7 @@ abbrev pub IsMeant : Regex → List ℕ → Type 0
 IsMeant regex text =
     ((value : List ℕ) → All (λ byte. byte < 256) value → is_some (find_str (regex_pattern regex) value 0) ≡ is_whole_match text value)
     × ((value : List ℕ) → All (λ byte. byte < 256) value →
-       option_map (group_texts value) (find_str (regex_pattern regex) value 0) ≡ whole_groups text value)
+    option_map (group_texts value) (find_str (regex_pattern regex) value 0) ≡ whole_groups text value)
 
 -- the texts of these groups
 abbrev pub texts_of : Captures → List ℕ → List (List ℕ)

@@ -102,7 +102,11 @@ fn compiled(alloc: Global, text: &str) -> Result<Regex, PatternFault>
 }
 
 /// The texts of these groups.
-fn texts(alloc: Global, captures: &Captures<'_, '_>, groups: &[usize]) -> Result<List<Text>, AllocError>
+fn texts(
+    alloc: Global,
+    captures: &Captures<'_, '_>,
+    groups: &[usize],
+) -> Result<List<Text>, AllocError>
     ensures { IfOk result (λ texts. texts ≡ texts_of captures.now groups.now) }
 {
     let mut texts = List::new(alloc);

@@ -3,7 +3,11 @@ use std::alloc::{AllocError, Global};
 use std::test::Fail;
 
 /// Whether the pattern of a text matches a value, or why the text gave none.
-fn answer(alloc: Global, text: &str, value: &str) -> Result<Result<bool, PatternFault>, AllocError> {
+fn answer(
+    alloc: Global,
+    text: &str,
+    value: &str,
+) -> Result<Result<bool, PatternFault>, AllocError> {
     let mut patterns = MemPatterns::steady(alloc);
     match patterns.build(text) {
         Ok(mut pattern) => Ok(Ok(pattern.whole(value)?)),
@@ -42,7 +46,11 @@ fn patterns_match_whole_values(rt: HostRuntime) -> Result<(), Fail> {
         ("a$|b", "a", true),
         (r"\d+", "١٢", true),
     ] {
-        assert_eq!(rt; answer(rt.alloc(), text, value)?, Ok(want), "{text} over {value}");
+        assert_eq!(rt;
+            answer(rt.alloc(), text, value)?,
+            Ok(want),
+            "{text} over {value}"
+        );
     }
     Ok(())
 }
@@ -51,7 +59,11 @@ fn patterns_match_whole_values(rt: HostRuntime) -> Result<(), Fail> {
 #[test]
 fn texts_that_are_no_patterns(rt: HostRuntime) -> Result<(), Fail> {
     for text in ["(", "a)(b", "[z-a]", "a{2,1}", r"\q", "*", "(?<a>b)(?<a>c)"] {
-        assert_eq!(rt; answer(rt.alloc(), text, "ab")?, Err(PatternFault::Syntax), "{text}");
+        assert_eq!(rt;
+            answer(rt.alloc(), text, "ab")?,
+            Err(PatternFault::Syntax),
+            "{text}"
+        );
     }
     Ok(())
 }
@@ -64,9 +76,17 @@ fn groups_are_told(rt: HostRuntime) -> Result<(), Fail> {
         ("a", "a", "|a|||||||||"),
         ("(a)", "b", ""),
         ("(a|ab)(c|bcd)", "abcd", "|abcd|a|bcd|||||||"),
-        ("(.)(.)(.)(.)(.)(.)(.)(.)(.)(.)", "abcdefghij", "|abcdefghij|a|b|c|d|e|f|g|h|i"),
+        (
+            "(.)(.)(.)(.)(.)(.)(.)(.)(.)(.)",
+            "abcdefghij",
+            "|abcdefghij|a|b|c|d|e|f|g|h|i",
+        ),
     ] {
-        assert_eq!(rt; groups_of(rt.alloc(), text, value)?.as_str(), want, "{text} over {value}");
+        assert_eq!(rt;
+            groups_of(rt.alloc(), text, value)?.as_str(),
+            want,
+            "{text} over {value}"
+        );
     }
     Ok(())
 }
