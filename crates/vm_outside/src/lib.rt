@@ -56,7 +56,7 @@ pub use mem_sink::MemSink;
 pub use mem_source::MemSource;
 pub use no_disk::NoDisk;
 pub use no_link::NoLink;
-pub use no_patterns::{NoPattern, NoPatterns};
+pub use no_patterns::NoPatterns;
 pub use patterns::{Pattern, PatternFault, Patterns};
 pub use sink::Sink;
 pub use source::Source;
