@@ -1,7 +1,10 @@
+mod Endings
+mod Falls
 mod FromRead
 mod Held
 mod Limits
 mod Moves
+mod Openings
 mod Parts
 mod ReadBackFits
 mod ReadBackItems
@@ -17,5 +20,9 @@ mod ReadBackTexts
 mod ReadBackTrees
 mod ReadBackWords
 pub mod ReadingLaws
+mod Sums
 mod ToRead
+mod TokenPlaces
+mod Turns
 mod Viable
+mod WordKinds

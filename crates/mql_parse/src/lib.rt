@@ -1,18 +1,43 @@
-//! The grammar of queries, and a machine that reads it, one token a step.
+//! Queries, from their tokens.
 //!
-//! `specs/Grammar.antt` says which words are an expression, apart from how they are read, and
-//! `specs/Machine.antt` computes. `laws` states that the machine reads the grammar and nothing else, and
-//! where it stops at other words.
+//! Begin with `parse`. It follows the machine of `specs/Machine.antt`, one token a `step`, over a
+//! `Stack` of what is open. What a query is stands apart from that in `specs/Grammar.antt`, and what
+//! its faults are in `specs/Faults.antt`; `laws` has that machine and grammar agree.
 //!
-//! It stands on `mql_lists` for the words of a query and the parts that don't nest, on `mql_expr` for
-//! trees, on `vm_decimal` for numbers and on `vm_base` for first wrong places.
+//! It stands on `mql_lex` for tokens, on `mql_lists` for the parts of a query that don't nest, on
+//! `mql_expr` for expressions, on `vm_decimal` for numbers and on `vm_base` for lists and texts.
 #![tactic(auto)]
 
+#[cfg(test)]
+mod check_tests;
+#[cfg(test)]
+mod depth_tests;
+mod duration;
 mod fault;
+#[cfg(test)]
+mod fault_tests;
+mod joining;
 mod laws;
+mod measuring;
+mod naming;
+mod opening;
+mod operand;
+#[cfg(test)]
+mod operator_tests;
+mod parse_fault;
+mod parser;
+mod reducing;
+mod stack;
+mod state;
+mod step;
+mod templating;
+#[cfg(test)]
+mod tests;
+mod wanted;
 
-pub use fault::Wrong;
 pub use laws::{
     canonical_text_is_one_query, expressions_are_read, what_is_printed_is_read_back,
     words_are_one_expression, wrong_words_are_named,
 };
+pub use parse_fault::ParseFault;
+pub use parser::parse;
