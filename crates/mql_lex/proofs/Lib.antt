@@ -1,3 +1,4 @@
+pub mod Cuts
 mod Durations
 mod FromRead
 mod Moves

@@ -1,6 +1,7 @@
 pub mod Faults
 pub mod Grammar
 pub mod Machine
+pub mod ReadBack
 pub mod Stack
 pub mod Values
 pub mod Views

@@ -4,7 +4,8 @@
 //! were and how many lines were skipped. `copy ROUNDS` copies all bytes of the input to another place in memory,
 //! which is the yardstick, and prints how many it copied. `decimals OPERATION ROUNDS` calls an operation of
 //! `vm_decimal` on the two numbers of each line, and prints how many answers counted. With 0 rounds they take the
-//! time of reading the input.
+//! time of reading the input. `queries ROUNDS` cuts each line into tokens, reads them as a query and prints it, and
+//! prints how many were queries and how many bytes their canonical texts have.
 //!
 //! `encode KIND ROUNDS`, `decode KIND ROUNDS` and `move KIND ROUNDS` make a series of 16 blocks, constant, counter,
 //! gauge or random, and write its blocks, read them, or copy their samples in memory; each prints how many samples
@@ -14,6 +15,7 @@
 
 mod blocks;
 mod decimals;
+mod queries;
 
 use anyhow::{Result, bail};
 use std::alloc::Global;
@@ -39,6 +41,11 @@ fn main(rt: HostRuntime) -> Result<()> {
                 "promtext" => {
                     let (rows, skipped) = read_lines(alloc, &input, rounds)?;
                     println!(rt; "rows {rows} skipped {skipped}")?;
+                }
+                "queries" => {
+                    let lines = str::from_utf8(&input)?;
+                    let (queries, bytes) = queries::read_and_print(alloc, lines, rounds)?;
+                    println!(rt; "queries {queries} bytes {bytes}")?;
                 }
                 "copy" => {
                     let bytes = copy(alloc, &input, rounds)?;

@@ -1,3 +1,4 @@
+mod PatternLaws
 mod Pieces
 pub mod Streams
 mod RecordLaws
