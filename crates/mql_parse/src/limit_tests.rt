@@ -129,33 +129,12 @@ fn stands(rt: &impl Abort, alloc: Global, text: &str, expected: &str) -> Result<
 }
 
 #[test]
-fn operators_in_a_row(rt: HostRuntime) -> Result<(), Fail> {
-    let alloc = rt.alloc();
-    let text = repeated(alloc, "1+", 8_191, "1")?;
-    let expected = repeated(alloc, "1 + ", 8_191, "1")?;
-    stands(&rt, alloc, text.as_str(), expected.as_str())?;
-    Ok(())
-}
-
-#[test]
 fn bodies_in_bodies(rt: HostRuntime) -> Result<(), Fail> {
     let alloc = rt.alloc();
     let text = repeated(alloc, "with()", 2_730, "a")?;
     let closing = repeated(alloc, ")", 2_729, "")?;
     let last = format!(in alloc; "WITH () a{closing}")?;
     let expected = repeated(alloc, "WITH () (", 2_729, last.as_str())?;
-    stands(&rt, alloc, text.as_str(), expected.as_str())?;
-    Ok(())
-}
-
-/// Each operator stands in the right operand of the one before it.
-#[test]
-fn operators_in_bodies(rt: HostRuntime) -> Result<(), Fail> {
-    let alloc = rt.alloc();
-    let text = repeated(alloc, "1+with()", 2_000, "a")?;
-    let last = repeated(alloc, ")", 2_000, "")?;
-    let body = format!(in alloc; "a{last}")?;
-    let expected = repeated(alloc, "1 + (WITH () ", 2_000, body.as_str())?;
     stands(&rt, alloc, text.as_str(), expected.as_str())?;
     Ok(())
 }
