@@ -1,4 +1,3 @@
-mod PatternLaws
 mod Pieces
 pub mod Streams
 mod RecordLaws

@@ -1,17 +1,14 @@
 pub mod Clock
 pub mod Disk
 pub mod DiskCalls
-pub mod Expressions
 pub mod FailingCalls
 pub mod Files
 pub mod MemDisk
 pub mod MemDiskLaws
-pub mod MemPatterns
 pub mod MemSink
 pub mod MemSource
 pub mod NoDisk
 pub mod Outside
-pub mod Patterns
 pub mod Splices
 pub mod Unsynced
 pub mod UnsyncedLaws

@@ -1,7 +1,9 @@
-ghost use Rattle.std.specs.Prelude.{◌≡◌, IsErrOf};
+ghost use Rattle.std.specs.Prelude.{◌≡◌, false, Ok, None, IsErrOf};
 ghost use Rattle.vm_outside.specs.Outside.{raised};
 
-use crate::{MemPattern, PatternFault, Patterns};
+use crate::{Pattern, PatternFault, Patterns};
+use std::alloc::AllocError;
+use vm_base::{List, Text};
 
 /// A builder that refuses each text, and counts that. It is what a program hands in that matches
 /// no patterns.
@@ -21,15 +23,33 @@ impl NoPatterns {
 }
 
 impl Patterns for NoPatterns {
-    type Built = MemPattern;
+    type Built = NoPattern;
 
     ghost refusals = { λ patterns. patterns.refusals };
 
-    fn build(&mut self, _text: &str) -> Result<MemPattern, PatternFault>
+    fn build(&mut self, _text: &str) -> Result<NoPattern, PatternFault>
         ensures refused { IsErrOf result PatternFault.Refused }
         ensures counted { self.new.refusals ≡ raised self.old.refusals }
     {
         self.refusals = self.refusals.saturating_add(1);
         Err(PatternFault::Refused)
+    }
+}
+
+/// The pattern that `NoPatterns` never builds: it matches no value.
+#[derive(Debug, Drop)]
+pub struct NoPattern;
+
+impl Pattern for NoPattern {
+    fn whole(&mut self, _value: &str) -> Result<bool, AllocError>
+        ensures { result ≡ Ok false }
+    {
+        Ok(false)
+    }
+
+    fn groups(&mut self, _value: &str) -> Result<Option<List<Text>>, AllocError>
+        ensures { result ≡ Ok None }
+    {
+        Ok(None)
     }
 }

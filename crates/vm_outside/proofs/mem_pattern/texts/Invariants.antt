@@ -1,6 +1,0 @@
-use Rattle.std.proofs.Common.{◌≡◌, take}
-use Rattle.vm_outside.specs.Expressions.{texts_of}
-use Rattle.vm_outside.proofs.mem_pattern.texts.Given as goal
-
-abbrev pub invariant-loop-group : goal.invariant-loop-group
-invariant-loop-group l = l.texts ≡ texts_of l.captures (take l.group-index l.groups)
