@@ -34,7 +34,7 @@ clamp_max(node_filesystem_avail_bytes{fstype!="tmpfs"} / node_filesystem_size_by
 sort_desc(sum by (job) (scrape_samples_scraped)) default 0
 deriv_fast(process_resident_memory_bytes[30m]) > bool 1e6
 last_over_time(node_time_seconds[5m] offset 1d) - node_time_seconds offset -1h
-WITH (cpu = rate(node_cpu_seconds_total[5m]), of(mode) = cpu{mode=mode}) sum(cpu) by (instance)
+WITH (cpu = rate(node_cpu_seconds_total[5m]), total(q) = sum(q) by (instance)) total(cpu)
 round(min by (cluster) (quorum{role="leader" or role="follower"}) if ready == 1, 0.01)
 QUERIES
 }
