@@ -42,6 +42,7 @@ pub use clock::Clock;
 pub use disk::Disk;
 pub use disk_call::DiskCall;
 pub use failed::Failed;
+pub use failing_calls::FailingCalls;
 pub use files::{ReadFault, read_all, write_and_sync};
 pub use link::Link;
 pub use mem_clock::MemClock;

@@ -1,4 +1,4 @@
-ghost use Rattle.std.specs.Prelude.{◌≡◌, false, Ok, None, IsErrOf};
+ghost use Rattle.std.specs.Prelude.{◌≡◌, ⊤, [], false, Ok, None, IsErrOf};
 ghost use Rattle.vm_outside.specs.Outside.{raised};
 
 use crate::{Pattern, PatternFault, Patterns};
@@ -25,6 +25,8 @@ impl NoPatterns {
 impl Patterns for NoPatterns {
     type Built = NoPattern;
 
+    ghost IsPattern = { λ _. ⊤ };
+
     ghost refusals = { λ patterns. patterns.refusals };
 
     fn build(&mut self, _text: &str) -> Result<NoPattern, PatternFault>
@@ -41,6 +43,12 @@ impl Patterns for NoPatterns {
 pub struct NoPattern;
 
 impl Pattern for NoPattern {
+    ghost text = { λ _. [] };
+
+    ghost matches = { λ _ _. false };
+
+    ghost groups_of = { λ _ _. None };
+
     fn whole(&mut self, _value: &str) -> Result<bool, AllocError>
         ensures { result ≡ Ok false }
     {

@@ -1,0 +1,3 @@
+pub mod Expressions
+pub mod MemPatterns
+pub mod Patterns
