@@ -1,9 +1,9 @@
 //! The canonical text of a query.
 
-ghost use Rattle.std.specs.Prelude.{◌≡◌, ◌++◌, OnOk, OnErr};
-ghost use Rattle.mql_expr.specs.Canonical.{canonical, text_of, pieces, placed, comma_before, arguments, bindings, binding, in_parentheses};
+ghost use Rattle.std.specs.Prelude.{◌≡◌, ◌∷◌, ◌++◌, OnOk, OnErr};
+ghost use Rattle.mql_expr.specs.Canonical.{blank, canonical, text_of, pieces, placed, comma_before, arguments, bindings, binding, in_parentheses};
 ghost use Rattle.mql_expr.specs.Lexed.{PrintsItsWords};
-ghost use Rattle.mql_expr.specs.Tree.{tree, trees_in, templates_in};
+ghost use Rattle.mql_expr.specs.Tree.{tree, trees_in, templates_in, ranged, negate};
 
 use crate::expr::{Expr, Node, Template};
 use crate::levels::{level_of, level_of_op};
@@ -11,6 +11,7 @@ use crate::print_parts::{
     put_after, put_before, put_call_name, put_keep, put_offset, put_operator, put_params,
     put_select, put_string, put_text, put_window,
 };
+use mql_lex::Span;
 use std::alloc::AllocError;
 
 /// Appends the canonical text of a query to `out`, which stays as it was where memory runs out.
@@ -47,11 +48,7 @@ fn put(expr: &Expr, out: &mut Vec<u8>) -> Result<(), AllocError>
             inner,
             window,
             offset,
-        } => {
-            put_placed(10, inner.get(), out)?;
-            put_window(*window, out)?;
-            put_offset(*offset, out)
-        }
+        } => put_ranged(inner.get(), *window, *offset, out),
         Node::Call {
             name,
             args,
@@ -76,17 +73,46 @@ fn put(expr: &Expr, out: &mut Vec<u8>) -> Result<(), AllocError>
             put_operator(*op, *truth, matching, out)?;
             put_placed(level_of_op(*op) + 1, right.get(), out)
         }
-        Node::Negate(inner) => {
-            out.push(b'-')?;
-            put_placed(9, inner.get(), out)
-        }
+        Node::Negate(inner) => put_negated(inner.get(), out),
         Node::With { templates, body } => {
             out.extend_from_slice(b"WITH ")?;
             put_templates(templates.as_slice(), out)?;
-            out.push(b' ')?;
-            put_placed(1, body.get(), out)
+            put_body(body.get(), out)
         }
     }
+}
+
+/// Appends an expression with its window and its offset.
+#[cycle(print)]
+fn put_ranged(
+    inner: &Expr,
+    window: Option<Span>,
+    offset: Option<Span>,
+    out: &mut Vec<u8>,
+) -> Result<(), AllocError>
+    ensures { OnOk result (out.new.items ≡ out.old.items ++ text_of (pieces (ranged 0 (tree inner.now) window offset))) }
+{
+    put_placed(10, inner, out)?;
+    put_window(window, out)?;
+    put_offset(offset, out)
+}
+
+/// Appends an expression with a minus before it.
+#[cycle(print)]
+fn put_negated(inner: &Expr, out: &mut Vec<u8>) -> Result<(), AllocError>
+    ensures { OnOk result (out.new.items ≡ out.old.items ++ text_of (pieces (negate 0 (tree inner.now)))) }
+{
+    out.push(b'-')?;
+    put_placed(9, inner, out)
+}
+
+/// Appends the body of a WITH, with a blank before it.
+#[cycle(print)]
+fn put_body(body: &Expr, out: &mut Vec<u8>) -> Result<(), AllocError>
+    ensures { OnOk result (out.new.items ≡ out.old.items ++ text_of (blank ∷ placed 1 (tree body.now))) }
+{
+    out.push(b' ')?;
+    put_placed(1, body, out)
 }
 
 /// Appends an expression, in parentheses where it binds less closely than its place wants.

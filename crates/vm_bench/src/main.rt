@@ -4,8 +4,8 @@
 //! were and how many lines were skipped. `copy ROUNDS` copies all bytes of the input to another place in memory,
 //! which is the yardstick, and prints how many it copied. `decimals OPERATION ROUNDS` calls an operation of
 //! `vm_decimal` on the two numbers of each line, and prints how many answers counted. With 0 rounds they take the
-//! time of reading the input. `queries ROUNDS` cuts each line into tokens, reads them as a query and prints it, and
-//! prints how many were queries and how many bytes their canonical texts have.
+//! time of reading the input. `queries ROUNDS` cuts each line into tokens, reads them as a query, prints it and checks
+//! it, and prints how many were queries, how many of these had no fault, and how many bytes their canonical texts have.
 //!
 //! `encode KIND ROUNDS`, `decode KIND ROUNDS` and `move KIND ROUNDS` make a series of 16 blocks, constant, counter,
 //! gauge or random, and write its blocks, read them, or copy their samples in memory; each prints how many samples
@@ -34,39 +34,57 @@ fn main(rt: HostRuntime) -> Result<()> {
     for word in env::args(&rt)?.skip(1) {
         words.push(word)?;
     }
-    match words.as_slice() {
-        [name, rounds] => {
-            let rounds = rounds.parse::<u32>()?;
-            match name.as_str() {
-                "promtext" => {
-                    let (rows, skipped) = read_lines(alloc, &input, rounds)?;
-                    println!(rt; "rows {rows} skipped {skipped}")?;
-                }
-                "queries" => {
-                    let lines = str::from_utf8(&input)?;
-                    let (queries, bytes) = queries::read_and_print(alloc, lines, rounds)?;
-                    println!(rt; "queries {queries} bytes {bytes}")?;
-                }
-                "copy" => {
-                    let bytes = copy(alloc, &input, rounds)?;
-                    println!(rt; "bytes {bytes}")?;
-                }
-                _ => bail!("usage"),
-            }
-        }
+    let told = match words.as_slice() {
+        [name, rounds] => of_input(alloc, name.as_str(), &input, rounds.parse::<u32>()?)?,
         [name, kind, rounds] => {
-            let rounds = rounds.parse::<u32>()?;
-            if name.as_str() == "decimals" {
-                let counted = decimals::calculate(alloc, &input, kind.as_str(), rounds)?;
-                println!(rt; "counted {counted}")?;
-            } else {
-                let (samples, bytes) = blocks::run(alloc, name.as_str(), kind.as_str(), rounds)?;
-                println!(rt; "samples {samples} bytes {bytes}")?;
-            }
+            of_kind(
+                alloc,
+                name.as_str(),
+                kind.as_str(),
+                &input,
+                rounds.parse::<u32>()?,
+            )?
         }
         _ => bail!("usage"),
-    }
+    };
+    println!(rt; "{told}")?;
     Ok(())
+}
+
+/// What a call makes of the input.
+fn of_input(alloc: Global, call: &str, input: &[u8], rounds: u32) -> Result<String> {
+    let told = match call {
+        "promtext" => {
+            let (rows, skipped) = read_lines(alloc, input, rounds)?;
+            format!(in alloc; "rows {rows} skipped {skipped}")?
+        }
+        "queries" => {
+            let counts = queries::read_and_print(alloc, str::from_utf8(input)?, rounds)?;
+            let (queries, right, bytes) = (counts.queries, counts.right, counts.bytes);
+            format!(in alloc; "queries {queries} right {right} bytes {bytes}")?
+        }
+        "copy" => {
+            let bytes = copy(alloc, input, rounds)?;
+            format!(in alloc; "bytes {bytes}")?
+        }
+        _ => bail!("usage"),
+    };
+    Ok(told)
+}
+
+/// What a call of some kind makes of the input, or of a series of that kind.
+fn of_kind(alloc: Global, call: &str, kind: &str, input: &[u8], rounds: u32) -> Result<String> {
+    let told = match call {
+        "decimals" => {
+            let counted = decimals::calculate(alloc, input, kind, rounds)?;
+            format!(in alloc; "counted {counted}")?
+        }
+        _ => {
+            let (samples, bytes) = blocks::run(alloc, call, kind, rounds)?;
+            format!(in alloc; "samples {samples} bytes {bytes}")?
+        }
+    };
+    Ok(told)
 }
 
 /// How many rows the lines hold, and how many lines are skipped, in all rounds.
