@@ -1,5 +1,5 @@
 -- Where a word means the same to a state as to another.
-use Rattle.std.specs.Prelude.{◌≡◌, ℕ, List, [], ◌∷◌, Bool, true, false, Option, Some, None}
+use Rattle.std.specs.Prelude.{◌≡◌, ℕ, List, [], ◌∷◌, Bool, false, Some, None}
 use Rattle.std.proofs.Common.{refl}
 use Rattle.mql_lex.specs.declared.group.Many.{Many}
 use Rattle.mql_lex.specs.declared.group.Many.TheVariants.{One}

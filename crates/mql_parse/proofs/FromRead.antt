@@ -1,10 +1,8 @@
 -- What the machine reads is in the grammar.
-use Rattle.std.specs.Prelude.{◌≡◌, ℕ, zero, suc, ◌<◌, ◌≤◌, ◌==◌, nat_lt, nat_le, Bool, true, false, List, [], ◌∷◌, ◌++◌, Option, Some, None, is_some, Result, Ok, Err, option_and_then, if◌then◌else◌}
+use Rattle.std.specs.Prelude.{◌≡◌, ℕ, zero, suc, ◌<◌, ◌≤◌, ◌==◌, nat_lt, nat_le, Bool, true, false, List, [], ◌∷◌, Option, Some, None, is_some, Result, Ok, Err, if◌then◌else◌}
 use Rattle.std.proofs.Common.{refl, ap, sym, subst, ◌∙◌, arith, ⊎_elim}
-use Rattle.std.proofs.lemmas.Bool.{cases_lt, cases_eq}
+use Rattle.std.proofs.lemmas.Bool.{cases_lt}
 use Rattle.std.proofs.lemmas.Bool.Decides.{nat_tests}
-use Rattle.vm_base.specs.Run.{run, result}
-use Rattle.mql_lex.specs.declared.group.Group.{Group}
 use Rattle.mql_lex.specs.declared.group.Many.{Many}
 use Rattle.mql_lex.specs.declared.group.Many.TheVariants.{One}
 use Rattle.mql_lex.specs.declared.group.MatchKind.{MatchKind}
@@ -25,13 +23,13 @@ use Rattle.mql_lists.specs.declared.progress.Progress.{Progress}
 use Rattle.mql_lists.specs.declared.progress.Progress.TheVariants.{Goes, Done}
 use Rattle.mql_parse.specs.Values.{number_of, or_zero, length_of, is_short, ahead, back}
 use Rattle.mql_expr.specs.Levels.{level_of_op as level}
-use Rattle.mql_parse.specs.Grammar.{Is, is_comparison, deepest, MayOpen, NumberFits, LengthFits, ListedNames, in_parens as parens, GroupIfAny, no_group, a_group, KeepIfAny, no_keep, a_keep, TruthIfAny, no_truth, a_truth, begins_open, ManyIfAny, no_many, a_many, many_names, matching, Mods, no_mods, some_mods, Offset, an_offset, offset_back as a_back, OffsetIfAny, no_offset, some_offset, Postfix, windowed as a_window, not_windowed, ParamsIfAny, no_params, some_params, unary, postfix, Reads, looser, an_operator, a_minus, a_plus, a_primary, a_postfix, a_with, Primary, a_number, a_string, in_brackets, a_call, a_metric, a_selector, a_nameless, Args, no_args, last_arg, next_arg, Template, a_template, Templates, no_template, last_template, more_templates, Spells}
+use Rattle.mql_parse.specs.Grammar.{Is, is_comparison, deepest, MayOpen, LengthFits, ListedNames, in_parens as parens, GroupIfAny, no_group, a_group, KeepIfAny, no_keep, a_keep, TruthIfAny, no_truth, a_truth, begins_open, ManyIfAny, no_many, a_many, many_names, matching, Mods, no_mods, some_mods, Offset, an_offset, offset_back as a_back, no_offset, some_offset, windowed as a_window, not_windowed, ParamsIfAny, no_params, some_params, unary, postfix, Reads, looser, an_operator, a_minus, a_plus, a_primary, a_postfix, a_with, Primary, a_number, a_string, in_brackets, a_call, a_metric, a_selector, a_nameless, no_args, last_arg, next_arg, Template, a_template, no_template, last_template, more_templates, Spells}
 use Rattle.mql_parse.specs.declared.fault.Wrong.{Wrong}
 use Rattle.mql_parse.specs.declared.fault.Wrong.TheVariants.{Unexpected, TooDeep, NumberTooWide}
-use Rattle.mql_parse.specs.Machine.{State, at, moved, reached, Frame, in_parens, in_minus, in_plus, in_operator, in_args, in_template, in_body, Before, step, by, final_of, standing, end_with, end_frame, close_frame, continue_frame, opened, opening, only, fits, reduce, Reduced, operate, close, continue, end, go_on, primary, complete, windowed, window_wanted, window_read, offset_wanted, offset_back, named, called, regrouped, grouped, names_wanted, in_names, in_braces, in_params, many_read, matched, with_read, template_wanted, template_named, template_headed, Purpose, before_args, after_args, matched_by, taken_over, named_for, Call, Head, Joint, Scope, calling, call_of, head_of, metric, joined, wanted, operated, compared, true_joint, no_more, within_part, by_wanted, by_named, by_called, by_regrouped, by_primary, by_grouped, by_compared, by_many, by_matched, by_operated, by_with_read, by_names_wanted, by_template_named, by_template_headed, by_template_wanted, by_window, by_window_wanted, by_window_read, by_offset_wanted, by_offset_back, joining, one_more, with_one_more, measured}
+use Rattle.mql_parse.specs.Machine.{State, at, moved, reached, Frame, in_parens, in_minus, in_plus, in_operator, in_args, in_template, in_body, Before, by, standing, end_with, end_frame, close_frame, continue_frame, opened, opening, only, fits, reduce, Reduced, operate, end, go_on, primary, complete, windowed, window_wanted, window_read, offset_wanted, offset_back, named, called, regrouped, grouped, names_wanted, in_names, in_braces, in_params, many_read, matched, with_read, template_wanted, template_named, template_headed, Purpose, before_args, after_args, matched_by, taken_over, named_for, Call, Head, Joint, Scope, calling, call_of, head_of, metric, joined, wanted, operated, compared, true_joint, no_more, within_part, by_wanted, by_named, by_called, by_regrouped, by_primary, by_grouped, by_compared, by_many, by_matched, by_operated, by_with_read, by_names_wanted, by_template_named, by_template_headed, by_template_wanted, by_window, by_window_wanted, by_window_read, by_offset_wanted, by_offset_back, one_more, with_one_more, measured}
 use Rattle.mql_parse.proofs.Moves.{Yields, Moves}
 use Rattle.mql_parse.proofs.Parts.{names_from, params_from, braces_from}
-use Rattle.mql_parse.proofs.ToRead.{wants, level_some, level_most, with_args, with_more, no_more_args, one_more_arg, no_more_templates, one_more_template}
+use Rattle.mql_parse.proofs.ToRead.{wants, level_some, level_most, no_more_args, one_more_arg, no_more_templates, one_more_template}
 use Rattle.mql_parse.proofs.Held.{HeadRead, head_read, CallRead, call_read, RegroupedRead, regrouped_read, InArgs, WithRead, whole_with, InTemplates, TemplateHead, template_head, OperatorRead, operator_read, JointRead, joint_read, MatchRead, match_read, PurposeRead, for_before, for_after, for_match, for_many, BraceHead, no_name, a_name, Built, Offsets, Windowed, Held, HeldAt}
 
 -- ---- tests

@@ -1,10 +1,9 @@
 -- How a step depends on the limits.
-use Rattle.std.specs.Prelude.{◌≡◌, ℕ, ◌<◌, nat_lt, nat_le, Bool, true, false, List, [], ◌∷◌, Option, Some, None, is_some, Result, Ok, Err, option_and_then}
-use Rattle.std.proofs.Common.{refl, ap, sym, subst, ◌∙◌, arith}
+use Rattle.std.specs.Prelude.{◌≡◌, ℕ, nat_lt, Bool, true, false, List, [], ◌∷◌, Option, Some, None, is_some, Result, Ok, Err, option_and_then}
+use Rattle.std.proofs.Common.{refl, ap, ◌∙◌, arith}
 use Rattle.std.proofs.lemmas.Bool.Decides.{nat_tests}
 use Rattle.vm_base.specs.Run.{run}
 use Rattle.mql_lex.specs.declared.operator.Op.{Op}
-use Rattle.mql_lex.specs.declared.group.Matching.{Matching}
 use Rattle.mql_lex.specs.declared.group.MatchKind.{MatchKind}
 use Rattle.mql_lex.specs.declared.group.Many.{Many}
 use Rattle.mql_lex.specs.declared.span.Span.{Span}
@@ -19,7 +18,7 @@ use Rattle.mql_lex.specs.declared.group.Many.TheVariants.{One}
 use Rattle.mql_lex.specs.declared.group.MatchKind.TheVariants.{All}
 use Rattle.mql_parse.specs.Grammar.{deepest, is_comparison, matching}
 use Rattle.mql_parse.specs.Faults.{is_measure}
-use Rattle.mql_parse.specs.Machine.{State, at, moved, Frame, in_parens, in_minus, in_plus, in_operator, in_args, in_template, in_body, Before, step, by, opened, opening, only, fits, reduce, close_frame, continue_frame, close, continue, go_on, primary, complete, windowed, window_wanted, window_read, offset_wanted, offset_back, named, called, regrouped, grouped, names_wanted, in_names, in_braces, in_params, many_read, matched, with_read, template_wanted, template_named, template_headed, Purpose, Call, Head, Joint, Scope, calling, metric, wanted, operated, compared, no_more, within_part, by_wanted, by_named, by_called, by_regrouped, by_primary, by_grouped, by_compared, by_many, by_matched, by_operated, by_with_read, by_names_wanted, by_template_named, by_template_headed, by_template_wanted, by_window, by_window_wanted, by_window_read, by_offset_wanted, by_offset_back, joining, measured}
+use Rattle.mql_parse.specs.Machine.{State, at, moved, Frame, in_parens, in_minus, in_plus, in_operator, in_args, in_template, in_body, Before, step, by, opened, opening, only, fits, reduce, close_frame, continue_frame, go_on, primary, complete, windowed, window_wanted, window_read, offset_wanted, offset_back, named, called, regrouped, grouped, names_wanted, in_names, in_braces, in_params, many_read, matched, with_read, template_wanted, template_named, template_headed, Purpose, Call, Head, Joint, Scope, calling, metric, wanted, operated, compared, no_more, within_part, by_wanted, by_named, by_called, by_regrouped, by_primary, by_grouped, by_compared, by_many, by_matched, by_operated, by_with_read, by_names_wanted, by_template_named, by_template_headed, by_template_wanted, by_window, by_window_wanted, by_window_read, by_offset_wanted, by_offset_back, joining, measured}
 use Rattle.mql_parse.specs.declared.fault.Wrong.{Wrong}
 use Rattle.mql_parse.specs.declared.fault.Wrong.TheVariants.{Unexpected, TooDeep, NumberTooWide}
 

@@ -1,20 +1,17 @@
 -- The machine's moves.
-use Rattle.std.specs.Prelude.{◌≡◌, ℕ, suc, ◌<◌, ◌≤◌, nat_lt, nat_le, Bool, true, false, List, [], ◌∷◌, Option, Some, None, Result, Ok, Err, option_and_then}
-use Rattle.std.proofs.Common.{refl, ap, sym, subst, ◌∙◌, arith, ⊎_elim}
-use Rattle.std.proofs.lemmas.Bool.Decides.{nat_tests}
+use Rattle.std.specs.Prelude.{◌≡◌, ℕ, false, List, [], ◌∷◌, Option, Some, None, Ok, option_and_then}
+use Rattle.std.proofs.Common.{refl, ap, sym, subst, ◌∙◌}
 use Rattle.std.specs.Option.{option_map_or}
 use Rattle.vm_base.specs.Run.{run, result}
-use Rattle.mql_lex.specs.declared.operator.Op.{Op}
 use Rattle.mql_lists.specs.declared.class.Class.{Class}
 use Rattle.mql_lists.specs.Words.{Word}
 use Rattle.mql_lists.specs.Classes.{class_of_word}
 use Rattle.mql_lists.specs.declared.progress.Progress.{Progress}
 use Rattle.mql_lists.specs.declared.progress.Progress.TheVariants.{Goes, Done}
 use Rattle.mql_lists.specs.Progress.{leads, behind_step}
-use Rattle.mql_expr.specs.Tree.{Tree, ranged}
-use Rattle.mql_expr.specs.Levels.{level_of_op as level}
-use Rattle.mql_parse.specs.Grammar.{Is, deepest, MayOpen}
-use Rattle.mql_parse.specs.Machine.{State, at, moved, Frame, in_parens, in_minus, in_plus, in_operator, in_args, in_template, in_body, Before, step, by, final_of, standing, opened, opening, only, fits, reduce, operate, close, continue, end, go_on, within_part, primary, complete, windowed, named, called, regrouped, Call, Head, Joint, Scope, calling, metric, by_primary, by_named, by_called, by_regrouped, by_window, joined, wanted, operated, compared, by_wanted, by_compared, joining}
+use Rattle.mql_expr.specs.Tree.{Tree}
+use Rattle.mql_parse.specs.Grammar.{Is}
+use Rattle.mql_parse.specs.Machine.{State, at, moved, Frame, Before, step, by, final_of, go_on, within_part, primary, complete, named, called, regrouped, Call, Head, calling, metric, by_primary, by_named, by_called, by_regrouped}
 
 -- the machine reads the text from here to its end, as this expression
 abbrev pub Yields : ℕ → State → List Word → Tree → Type 0

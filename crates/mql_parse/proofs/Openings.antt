@@ -1,5 +1,5 @@
 -- Where a level may be opened, and where a number and a duration are in range.
-use Rattle.std.specs.Prelude.{◌≡◌, ◌<◌, ℕ, ℤ, nat_lt, Bool, true, false, List, Option, Some, None, is_some, Result, Ok, Err}
+use Rattle.std.specs.Prelude.{◌≡◌, ◌<◌, ℕ, ℤ, nat_lt, Bool, true, false, List, Some, None, is_some, Ok, Err}
 use Rattle.std.proofs.Common.{refl, ap, arith, ◌∙◌}
 use Rattle.std.proofs.lemmas.Bool.Decides.{nat_tests}
 use Rattle.mql_expr.specs.Tree.{number}

@@ -1,5 +1,5 @@
 -- What the machines of parts read.
-use Rattle.std.specs.Prelude.{◌≡◌, ℕ, List, [], ◌∷◌, ◌++◌, Option, Some, None}
+use Rattle.std.specs.Prelude.{◌≡◌, ℕ, List, [], Some}
 use Rattle.mql_expr.specs.declared.item.Item.{Item}
 use Rattle.mql_expr.specs.declared.expr.Param.{Param}
 use Rattle.mql_lists.specs.Words.{Word}

@@ -1,6 +1,6 @@
 -- The machine reads expressions and nothing else, and stops at the first wrong word of others.
-use Rattle.std.specs.Prelude.{◌≡◌, ℕ, zero, suc, ◌+◌, ◌<◌, ◌≤◌, Bool, true, false, List, [], ◌∷◌, ◌++◌, length, take, Option, Some, None, Result, Ok, Err, option_and_then}
-use Rattle.std.proofs.Common.{refl, ap, sym, subst, ◌∙◌, arith, append_assoc, length-append}
+use Rattle.std.specs.Prelude.{◌≡◌, ℕ, suc, ◌+◌, Bool, true, false, List, [], ◌∷◌, ◌++◌, length, take, Some, None, Err, option_and_then}
+use Rattle.std.proofs.Common.{refl, ap, sym, subst, ◌∙◌, arith, length-append}
 use Rattle.std.proofs.Math.Seq.{take-append-add}
 use Rattle.vm_base.specs.FirstWrong.{Begins, FirstWrong}
 use Rattle.vm_base.specs.Run.{run, result, IsRead}
@@ -8,15 +8,13 @@ use Rattle.vm_base.proofs.RunLaws.{run-append, stuck_at, short_at, Begins-reache
 use Rattle.mql_expr.specs.Tree.{Tree}
 use Rattle.mql_lists.specs.Words.{Word}
 use Rattle.mql_lists.specs.Classes.{class_of_word}
-use Rattle.mql_lists.specs.declared.class.Class.{Class}
 use Rattle.mql_parse.specs.Faults.{place_of, is_measure, measures_at, IsUnexpected, IsBeyond}
-use Rattle.mql_parse.specs.Grammar.{Spells, IsExpr, IsAnyExpr, Reads}
-use Rattle.mql_parse.specs.Machine.{State, moved, step, by, final_of, start, opened, reduce, end}
+use Rattle.mql_parse.specs.Grammar.{Spells, IsExpr, IsAnyExpr}
+use Rattle.mql_parse.specs.Machine.{State, moved, step, by, final_of, start}
 use Rattle.mql_parse.specs.declared.fault.Wrong.{Wrong}
 use Rattle.mql_parse.specs.declared.fault.Wrong.TheVariants.{Unexpected, TooDeep, NumberTooWide}
 use Rattle.mql_parse.proofs.FromRead.{from_read}
 use Rattle.mql_parse.proofs.Limits.{GoesFree, Loosens, step_loosens, run_free}
-use Rattle.mql_parse.proofs.Moves.{Yields}
 use Rattle.mql_parse.proofs.ToRead.{expr_read}
 use Rattle.mql_parse.proofs.Viable.{viable}
 

@@ -1,13 +1,13 @@
 -- What is in the grammar is read by the machine.
-use Rattle.std.specs.Prelude.{◌≡◌, ℕ, suc, ◌<◌, ◌≤◌, ◌==◌, nat_lt, nat_le, Bool, true, false, List, [], ◌∷◌, ◌++◌, Option, Some, None, is_some, Result, Ok, Err, option_and_then}
+use Rattle.std.specs.Prelude.{◌≡◌, ℕ, suc, ◌<◌, ◌≤◌, ◌==◌, nat_lt, nat_le, Bool, true, false, List, [], ◌∷◌, ◌++◌, Option, Some, None, is_some, Ok, option_and_then}
 use Rattle.std.proofs.Common.{refl, ap, sym, subst, ◌∙◌, arith, append_assoc, append-nil}
 use Rattle.std.proofs.lemmas.Bool.Decides.{nat_tests}
 use Rattle.vm_base.specs.Run.{run}
 use Rattle.mql_lex.specs.declared.group.Group.{Group}
 use Rattle.mql_lex.specs.declared.group.Many.{Many}
-use Rattle.mql_lex.specs.declared.group.Many.TheVariants.{One, Left, Right}
+use Rattle.mql_lex.specs.declared.group.Many.TheVariants.{One}
 use Rattle.mql_lex.specs.declared.group.MatchKind.{MatchKind}
-use Rattle.mql_lex.specs.declared.group.MatchKind.TheVariants.{All, On, Ignoring}
+use Rattle.mql_lex.specs.declared.group.MatchKind.TheVariants.{All}
 use Rattle.mql_lex.specs.declared.group.Matching.{Matching}
 use Rattle.mql_lex.specs.declared.operator.Op.{Op}
 use Rattle.mql_lex.specs.declared.span.Span.{Span}
@@ -19,13 +19,13 @@ use Rattle.mql_expr.specs.declared.item.Item.{Item}
 use Rattle.mql_expr.specs.declared.expr.Param.{Param}
 use Rattle.mql_expr.specs.Tree.{Tree, number, string, select, ranged, negate, with_templates, templates_listed, TreeTemplate}
 use Rattle.mql_lists.specs.Machines.{names_start, names_step, params_start, params_step, braces_start, braces_step}
-use Rattle.mql_lists.specs.Grammar.{Names, Params, Braces}
+use Rattle.mql_lists.specs.Grammar.{Braces}
 use Rattle.mql_parse.specs.Values.{number_of, or_zero, length_of, is_short, ahead, back}
 use Rattle.mql_expr.specs.Levels.{level_of_op as level}
-use Rattle.mql_parse.specs.Grammar.{Is, is_comparison, deepest, MayOpen, NumberFits, LengthFits, ListedNames, in_parens as parens, GroupIfAny, no_group, a_group, KeepIfAny, no_keep, a_keep, TruthIfAny, no_truth, a_truth, begins_open, ManyIfAny, no_many, a_many, many_names, matching, Mods, no_mods, some_mods, Offset, an_offset, offset_back as a_back, OffsetIfAny, no_offset, some_offset, Postfix, windowed as a_window, not_windowed, ParamsIfAny, no_params, some_params, unary, postfix, Reads, looser, an_operator, a_minus, a_plus, a_primary, a_postfix, a_with, Primary, a_number, a_string, in_brackets, a_call, a_metric, a_selector, a_nameless, Args, no_args, last_arg, next_arg, Template, a_template, Templates, no_template, last_template, more_templates}
+use Rattle.mql_parse.specs.Grammar.{Is, deepest, MayOpen, LengthFits, ListedNames, in_parens as parens, GroupIfAny, no_group, a_group, KeepIfAny, no_keep, a_keep, TruthIfAny, no_truth, a_truth, begins_open, ManyIfAny, no_many, a_many, many_names, matching, Mods, no_mods, some_mods, Offset, an_offset, offset_back as a_back, OffsetIfAny, no_offset, some_offset, Postfix, windowed as a_window, not_windowed, ParamsIfAny, no_params, some_params, unary, postfix, Reads, looser, an_operator, a_minus, a_plus, a_primary, a_postfix, a_with, Primary, a_number, a_string, in_brackets, a_call, a_metric, a_selector, a_nameless, Args, no_args, last_arg, next_arg, Template, a_template, Templates, no_template, last_template, more_templates}
 use Rattle.mql_parse.specs.declared.fault.Wrong.TheVariants.{Unexpected, TooDeep, NumberTooWide}
-use Rattle.mql_parse.specs.Machine.{State, at, moved, Frame, in_parens, in_minus, in_plus, in_operator, in_args, in_template, in_body, Before, step, by, final_of, standing, opened, opening, only, fits, reduce, Reduced, operate, close, continue, end, go_on, primary, complete, windowed, window_wanted, window_read, offset_wanted, offset_back, named, called, regrouped, grouped, names_wanted, in_names, in_braces, in_params, many_read, matched, with_read, template_wanted, template_named, template_headed, Purpose, before_args, after_args, matched_by, taken_over, named_for, Call, Head, Joint, Scope, calling, call_of, head_of, metric, joined, wanted, operated, compared, true_joint, by_wanted, by_compared, by_many, by_matched, by_operated, by_template_named, by_template_headed, by_window, joining, one_more, with_one_more, measured}
-use Rattle.mql_parse.proofs.Moves.{Yields, on, on_class, Like, like, primary_like, named_like, regrouped_like, called_like, part}
+use Rattle.mql_parse.specs.Machine.{State, at, moved, Frame, in_parens, in_minus, in_plus, in_operator, in_args, in_template, in_body, Before, step, by, final_of, opened, opening, only, fits, reduce, operate, close, continue, end, go_on, primary, complete, windowed, window_wanted, window_read, offset_wanted, offset_back, named, called, regrouped, grouped, names_wanted, in_names, in_braces, in_params, many_read, matched, with_read, template_wanted, template_named, template_headed, Purpose, before_args, after_args, matched_by, taken_over, named_for, Call, Head, Joint, Scope, calling, call_of, head_of, metric, joined, wanted, operated, compared, true_joint, by_wanted, by_compared, by_many, by_matched, by_operated, by_template_named, by_template_headed, by_window, joining, one_more, measured}
+use Rattle.mql_parse.proofs.Moves.{Yields, on, on_class, like, primary_like, named_like, regrouped_like, called_like, part}
 use Rattle.mql_parse.proofs.Parts.{names_read, params_read, braces_read}
 
 -- ---- limits

@@ -1,5 +1,5 @@
 -- Where the tokens of a text stand in it.
-use Rattle.std.specs.Prelude.{◌≡◌, ℕ, zero, suc, ◌+◌, ◌<◌, ◌≤◌, List, [], ◌∷◌, length}
+use Rattle.std.specs.Prelude.{ℕ, zero, suc, ◌+◌, ◌<◌, List, [], ◌∷◌, length}
 use Rattle.std.proofs.Common.{arith, get_or}
 use Rattle.mql_lex.specs.Tokens.{AreTokens, AreInOrder, StandsIn}
 use Rattle.mql_lex.specs.declared.token.Token.{Token}

@@ -1,5 +1,5 @@
 -- The parser's turns: one token each.
-use Rattle.std.specs.Prelude.{◌≡◌, ℕ, zero, suc, ◌+◌, ◌<◌, ◌≤◌, List, [], ◌∷◌, ◌++◌, length, take, drop, map, Option, Some, None, Result, Ok, Err, option_and_then, true, false}
+use Rattle.std.specs.Prelude.{◌≡◌, ℕ, zero, suc, ◌+◌, ◌<◌, ◌≤◌, List, [], ◌∷◌, ◌++◌, length, take, drop, map, Some, None, Ok, Err, option_and_then, true, false}
 use Rattle.std.proofs.Common.{refl, ap, sym, subst, ◌∙◌, arith, get_or}
 use Rattle.vm_base.specs.Run.{run}
 use Rattle.vm_base.proofs.RunLaws.{run-append}
@@ -8,7 +8,6 @@ use Rattle.mql_lists.specs.Classes.{class_of_word}
 use Rattle.mql_parse.specs.Faults.{IsUnexpected, IsBeyond}
 use Rattle.mql_parse.specs.Grammar.{Spells}
 use Rattle.mql_parse.specs.Machine.{State, moved, step, by, final_of, start}
-use Rattle.mql_parse.specs.declared.fault.Wrong.{Wrong}
 use Rattle.mql_parse.specs.declared.fault.Wrong.TheVariants.{Unexpected, TooDeep, NumberTooWide}
 use Rattle.mql_expr.specs.Tree.{Tree}
 use Rattle.mql_parse.specs.Views.{the_fault, Steps}

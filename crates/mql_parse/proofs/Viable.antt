@@ -1,9 +1,9 @@
 -- From each state of the machine some words go on to the end of an expression.
-use Rattle.std.specs.Prelude.{◌≡◌, ℕ, zero, suc, ◌<◌, ◌≤◌, nat_lt, nat_le, Bool, true, false, List, [], ◌∷◌, ◌++◌, codes, Option, Some, None, Result, Ok, Err, option_and_then}
-use Rattle.std.proofs.Common.{refl, ap, sym, subst, ◌∙◌, arith, append-nil}
+use Rattle.std.specs.Prelude.{◌≡◌, ℕ, nat_lt, Bool, true, false, List, [], ◌∷◌, ◌++◌, codes, Option, Some, None, Ok}
+use Rattle.std.proofs.Common.{refl, ap, subst, ◌∙◌, arith, append-nil}
 use Rattle.std.proofs.lemmas.Bool.Decides.{nat_tests}
 use Rattle.std.specs.Option.{option_map}
-use Rattle.vm_base.specs.Run.{run, result, IsRead}
+use Rattle.vm_base.specs.Run.{IsRead}
 use Rattle.mql_lex.specs.declared.token.TokenKind.{TokenKind}
 use Rattle.mql_lex.specs.declared.token.TokenKind.TheVariants.{Number, Duration, Mark}
 use Rattle.mql_lex.specs.declared.group.Matching.{Matching}
@@ -17,13 +17,13 @@ use Rattle.mql_expr.specs.Tree.{Tree, number, negate, with_templates, templates_
 use Rattle.mql_lists.specs.Words.{Word}
 use Rattle.mql_lists.specs.Classes.{class_of_word, class_of_mark}
 use Rattle.mql_lists.specs.Progress.{leads, behind_step}
-use Rattle.mql_lists.specs.Machines.{names_step, names_start, params_step, params_start, braces_step, braces_start}
+use Rattle.mql_lists.specs.Machines.{names_step, names_start, params_step, braces_step}
 use Rattle.mql_lists.specs.declared.class.Class.{Class}
 use Rattle.mql_lists.specs.declared.progress.Progress.{Progress}
 use Rattle.mql_lists.specs.declared.progress.Progress.TheVariants.{Goes, Done}
 use Rattle.mql_parse.specs.Values.{number_of, or_zero, length_of, is_short, ahead, back}
 use Rattle.mql_parse.specs.Grammar.{Is, deepest, matching}
-use Rattle.mql_parse.specs.Machine.{State, at, moved, Frame, in_parens, in_minus, in_plus, in_operator, in_args, in_template, in_body, Before, step, by, final_of, opened, opening, only, fits, reduce, close, end, go_on, primary, complete, windowed, window_wanted, window_read, offset_wanted, offset_back, named, called, regrouped, grouped, names_wanted, in_names, in_braces, in_params, many_read, matched, with_read, template_wanted, template_named, template_headed, Purpose, before_args, after_args, matched_by, taken_over, named_for, Call, Head, Joint, Scope, calling, metric, joined, wanted, operated, compared, one_more, with_one_more, measured, within_part}
+use Rattle.mql_parse.specs.Machine.{State, at, moved, Frame, in_parens, in_minus, in_plus, in_operator, in_args, in_template, in_body, Before, step, by, final_of, opened, opening, only, fits, reduce, close, end, primary, complete, windowed, window_wanted, window_read, offset_wanted, offset_back, named, called, regrouped, grouped, names_wanted, in_names, in_braces, in_params, many_read, matched, with_read, template_wanted, template_named, template_headed, Purpose, before_args, after_args, matched_by, taken_over, named_for, Call, Head, Joint, Scope, calling, metric, joined, wanted, operated, compared, one_more, with_one_more, measured, within_part}
 use Rattle.mql_parse.specs.declared.fault.Wrong.TheVariants.{TooDeep, NumberTooWide}
 use Rattle.mql_parse.proofs.Moves.{Yields, on, part}
 use Rattle.mql_parse.proofs.Parts.{names_viable, params_viable, braces_viable}

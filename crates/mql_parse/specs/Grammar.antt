@@ -5,9 +5,9 @@
 use Rattle.std.specs.Prelude.{◌≡◌, ℕ, suc, ◌<◌, Bool, true, false, List, [], ◌∷◌, Option, Some, None, is_some}
 use Rattle.mql_lex.specs.declared.group.Group.{Group}
 use Rattle.mql_lex.specs.declared.group.Many.{Many}
-use Rattle.mql_lex.specs.declared.group.Many.TheVariants.{One, Left, Right}
+use Rattle.mql_lex.specs.declared.group.Many.TheVariants.{One}
 use Rattle.mql_lex.specs.declared.group.MatchKind.{MatchKind}
-use Rattle.mql_lex.specs.declared.group.MatchKind.TheVariants.{All, On, Ignoring}
+use Rattle.mql_lex.specs.declared.group.MatchKind.TheVariants.{All}
 use Rattle.mql_lex.specs.declared.group.Matching.{Matching}
 use Rattle.mql_lex.specs.declared.operator.Op.{Op}
 use Rattle.mql_lex.specs.declared.span.Span.{Span}

@@ -1,5 +1,5 @@
 -- The machine's state as contracts see it: expressions as trees.
-use Rattle.std.specs.Prelude.{◌≡◌, ℕ, List, [], ◌∷◌, map, Option, Result, Ok, Err, ⊤}
+use Rattle.std.specs.Prelude.{◌≡◌, ℕ, List, map, Result, Ok, Err, ⊤}
 use Rattle.mql_expr.specs.Tree.{tree, template}
 use Rattle.mql_parse.specs.Machine.{State, at, Frame, in_parens, in_minus, in_plus, in_operator, in_args, in_template, in_body, Before, wanted, named, grouped, called, regrouped, names_wanted, in_names, in_braces, primary, window_wanted, window_read, windowed, offset_wanted, offset_back, complete, operated, compared, matched, many_read, with_read, template_wanted, template_named, in_params, template_headed, Purpose, before_args, after_args, matched_by, taken_over, Call, Head, Joint, Scope}
 use Rattle.mql_parse.specs.declared.fault.Wrong.{Wrong}

@@ -1,9 +1,9 @@
-use Rattle.std.proofs.Common.{subst, sym, ap, ◌∙◌, ◌∷◌}
+use Rattle.std.proofs.Common.{subst, sym, ◌∙◌, ◌∷◌}
 use Rattle.mql_lists.specs.Classes.{class_of_word}
 use Rattle.mql_lists.specs.Words.{word_of}
 use Rattle.mql_parse.specs.Machine.{by_wanted, in_operator}
 use Rattle.mql_parse.specs.Stack.{stack_of}
-use Rattle.mql_parse.specs.Views.{the_frame, the_frames, the_joint, Steps}
+use Rattle.mql_parse.specs.Views.{the_frames, the_joint, Steps}
 use Rattle.mql_parse.proofs.Falls.{compared_falls}
 use Rattle.mql_parse.proofs.joining.by_compared.Goals as goal
 

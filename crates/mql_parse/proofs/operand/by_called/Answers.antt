@@ -1,7 +1,6 @@
-use Rattle.std.proofs.Common.{subst, sym, ◌∙◌}
-use Rattle.mql_expr.specs.Tree.{tree}
+use Rattle.std.proofs.Common.{subst, sym}
 use Rattle.mql_parse.specs.Stack.{stack_of}
-use Rattle.mql_parse.specs.Views.{the_call, the_frames, the_head, Steps}
+use Rattle.mql_parse.specs.Views.{the_call, the_frames, Steps}
 use Rattle.mql_parse.proofs.Falls.{called_falls}
 use Rattle.mql_parse.proofs.operand.by_called.Goals as goal
 

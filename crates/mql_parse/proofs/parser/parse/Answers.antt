@@ -1,11 +1,11 @@
-use Rattle.std.proofs.Common.{◌≡◌, ℕ, ◌<◌, length, Some, None, Err, sym, ap, subst, ◌∙◌, arith}
+use Rattle.std.proofs.Common.{◌≡◌, length, Some, sym, ap, subst, ◌∙◌}
 use Rattle.std.specs.Option.{option_map}
 use Rattle.mql_expr.specs.Tree.{tree}
 use Rattle.mql_lex.specs.declared.token.Token.{Token}
 use Rattle.mql_lex.specs.declared.token.TokenKind.TheVariants.{Name}
 use Rattle.mql_lists.specs.Words.{word_of, words_of}
 use Rattle.mql_parse.specs.Faults.{IsUnexpected}
-use Rattle.mql_parse.specs.Machine.{State, at, wanted, final_of}
+use Rattle.mql_parse.specs.Machine.{at, wanted}
 use Rattle.mql_parse.specs.Stack.{stack_of}
 use Rattle.mql_parse.specs.Views.{the_before, the_frames}
 use Rattle.mql_parse.specs.declared.parse_fault.ParseFault.{ParseFault}
