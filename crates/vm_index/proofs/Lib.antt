@@ -1,0 +1,9 @@
+pub mod BytesLaws
+pub mod DistinctLaws
+pub mod GatherLaws
+pub mod ListLaws
+pub mod LookupLaws
+pub mod NameLaws
+pub mod NumberLaws
+pub mod ReadLaws
+pub mod SortLaws
