@@ -1,5 +1,5 @@
 #!/bin/sh
-# How many queries of dashboards a second are cut into tokens, read and printed, beside how fast the machine copies
+# How many queries of dashboards a second are cut into tokens, read, printed and checked, beside how fast the machine copies
 # the same bytes, and whether the time grows with a text's length alone: texts of 8,192 and 16,384 bytes. Takes no
 # words. Prints two tables of processor time, each figure of the best of three runs, less the time of a run without
 # rounds.
@@ -78,7 +78,7 @@ awk -v bytes="$bytes" -v rounds="$rounds" -v copies="$copies" -v a="$reads" -v b
     mb = bytes * rounds / 1e6 / a
     copied = bytes * copies / 1e6 / b
     printf "|  | queries/s | MB/s | to a copy |\n|---|---|---|---|\n"
-    printf "| read and printed | %.0f | %.1f | %.5f |\n| copy |  | %.0f | 1.000 |\n\n", 20 * rounds / a, mb, mb / copied, copied
+    printf "| read, printed and checked | %.0f | %.1f | %.5f |\n| copy |  | %.0f | 1.000 |\n\n", 20 * rounds / a, mb, mb / copied, copied
 }'
 
 printf '|  | 8,192 bytes, ms | 16,384 bytes, ms | ratio |\n|---|---|---|---|\n'
@@ -87,4 +87,4 @@ for length in 8192 16384; do
     long_sum "$length" >"$input"
     best_of queries 200
     echo
-done | awk 'NR == 1 { short = $1 } NR == 2 { printf "| read and printed | %.2f | %.2f | %.2f |\n", short * 5, $1 * 5, $1 / short }'
+done | awk 'NR == 1 { short = $1 } NR == 2 { printf "| read, printed and checked | %.2f | %.2f | %.2f |\n", short * 5, $1 * 5, $1 / short }'
