@@ -1,2 +1,3 @@
 pub mod Dedup
 pub mod Intervals
+pub mod Visible

@@ -6,7 +6,10 @@
 //! Begin with `Dedup`. `thinned` of `vm_base` is what a list becomes, and `last_of_each_interval` says
 //! the same without walking the list: `specs/Intervals.antt` has its words.
 //!
-//! It stands on `vm_base` for `Stamped` and for `thinned`.
+//! `specs/Visible.antt` says what is seen of a series among rows: no function here cites it, but all who
+//! answer from rows or gather them do.
+//!
+//! It stands on `vm_base` for `Stamped` and for `thinned`, and on `vm_labels` for rows.
 #![tactic(auto)]
 
 mod dedup;

@@ -4,7 +4,7 @@ use Rattle.std.specs.Option.{option_map}
 use Rattle.vm_labels.specs.Selected.{selected}
 use Rattle.vm_labels.specs.declared.pair.Pair.{Pair}
 use Rattle.vm_labels.specs.declared.row.Row.{Row}
-use Rattle.vm_machine.specs.Visible.{visible}
+use Rattle.vm_dedup.specs.Visible.{visible}
 use Rattle.vm_machine.specs.Window.{default_rollup}
 use Rattle.vm_machine.specs.declared.question.Question.{Question}
 use Rattle.vm_machine.specs.declared.question.Valued.{Valued}

@@ -11,7 +11,7 @@ use Rattle.vm_labels.specs.Labels.{label_cmp}
 use Rattle.vm_labels.specs.declared.pair.Pair.{Pair}
 use Rattle.vm_labels.specs.declared.row.Row.{Row}
 use Rattle.vm_machine.specs.Eval.{series, present, lookback}
-use Rattle.vm_machine.specs.Visible.{visible, stamped}
+use Rattle.vm_dedup.specs.Visible.{visible, stamped}
 use Rattle.vm_machine.specs.Window.{is_within, last_within}
 use Rattle.vm_machine.specs.declared.question.Question.{Question}
 use Rattle.vm_machine.specs.declared.question.Valued.{Valued}

@@ -3,5 +3,4 @@ pub mod Eval
 pub mod Found
 pub mod InRange
 pub mod Machine
-pub mod Visible
 pub mod Window

@@ -2,11 +2,12 @@
 //!
 //! Read `specs/Machine.antt` first: the state of a machine, what can happen to it and what it answers.
 //! A query sees the rows that were accepted when its run was begun, by the definitions of
-//! `specs/Visible.antt`, `specs/Window.antt` and `specs/Eval.antt`. `Machine` is the plain program that
-//! does what they say, `Found` gathers an answer in one pass over rows, and `Batches` parts the rows of
-//! a body as `specs/Batches.antt` says.
+//! `specs/Visible.antt` of `vm_dedup`, `specs/Window.antt` and `specs/Eval.antt`. `Machine` is the plain
+//! program that does what they say, `Found` gathers an answer in one pass over rows, and `Batches` parts
+//! the rows of a body as `specs/Batches.antt` says.
 //!
-//! It stands on `vm_base` for samples and lists and on `vm_labels` for rows and selectors.
+//! It stands on `vm_base` for samples and lists, on `vm_labels` for rows and selectors and on `vm_dedup`
+//! for what is seen of a series.
 #![tactic(auto)]
 
 mod batches;
