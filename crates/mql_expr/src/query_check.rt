@@ -45,13 +45,11 @@ fn check_parts(expr: &Expr) -> Result<(), CheckFault>
             keep,
         } => {
             check_args(args.as_slice())?;
-            match Known::of(name.as_str()) {
-                Some(known) => wrong_unless(
-                    call_fits(known, args.as_slice(), before, after, *keep),
-                    expr.at,
-                ),
-                None => Err(CheckFault::UnknownFunction { at: expr.at }),
-            }
+            let Some(known) = Known::of(name.as_str()) else {
+                return Err(CheckFault::UnknownFunction { at: expr.at });
+            };
+            let fits = call_fits(known, args.as_slice(), before, after, *keep);
+            wrong_unless(fits, expr.at)
         }
         Node::Binary {
             op,
