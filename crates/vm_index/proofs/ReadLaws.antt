@@ -13,12 +13,12 @@ use Rattle.std.proofs.lemmas.List.Concat.{flat_map-append}
 use Rattle.std.proofs.lemmas.List.Elements.{All-from_recursion}
 use Rattle.std.proofs.lemmas.Slice.Eq.{bytes_eq-Decides}
 use Rattle.vm_labels.specs.Labels.{label_cmp}
-use Rattle.vm_labels.specs.Bytes.{HasBytes, label_set_bytes}
+use Rattle.vm_labels.specs.Bytes.{HasBytes, label_set_bytes, ◌>>=◌}
 use Rattle.vm_labels.specs.declared.pair.Pair.{Pair}
 use Rattle.vm_labels.proofs.OrderLaws.{label_cmp-total, both_true}
 use Rattle.vm_index.specs.Bytes.{framed, table_bytes}
 use Rattle.vm_index.specs.Index.{AreSets, KeepLimits, SetsRise, is_set_below}
-use Rattle.vm_index.specs.Reading.{BreaksBehind, no_length, past_the_end, no_set, no_rise, TableBreaks, TableFault, SetFault, Joins, behind, behind_all, first_off, frame_len, off_place, ◌>>=◌}
+use Rattle.vm_index.specs.Reading.{BreaksBehind, no_length, past_the_end, no_set, no_rise, TableBreaks, TableFault, SetFault, Joins, behind, behind_all, first_off, frame_len, off_place}
 use Rattle.vm_index.specs.declared.fault.IndexFault.{IndexFault}
 use Rattle.vm_index.specs.declared.fault.IndexFault.TheVariants.{BrokenTable, BrokenPostings, Memory}
 use Rattle.vm_index.proofs.ListLaws.{all_append, all_more, at_item}

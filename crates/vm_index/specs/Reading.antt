@@ -2,7 +2,7 @@
 use Rattle.std.specs.Prelude.{◌≡◌, ◌⊎◌, ℕ, ◌+◌, ◌-◌, ◌<◌, ◌≤◌, ◌^◌, nat_lt, false, List, [], ◌∷◌, ◌++◌, length, take, drop, bytes_eq, Option, Some, None, Result, Ok, Err, if◌then◌else◌, ⊤}
 use Rattle.std.specs.List.{list_all}
 use Rattle.std.specs.Int.{w32, to_be_bytes, from_be_bytes}
-use Rattle.vm_labels.specs.Bytes.{HasBytes, label_set_bytes, label_set_of}
+use Rattle.vm_labels.specs.Bytes.{HasBytes, label_set_bytes, label_set_of, ◌>>=◌}
 use Rattle.vm_labels.specs.declared.pair.Pair.{Pair}
 use Rattle.vm_index.specs.Bytes.{framed, postings_fields, table_bytes}
 use Rattle.vm_index.specs.Index.{AreSets, is_set_below, postings_of}
@@ -45,11 +45,6 @@ pub record TableBreaks (count : ℕ) (table : List ℕ) (at : ℕ) : Type 0 wher
 -- the bytes behind a field, or how many there are where the field doesn't stand
 abbrev pub behind : List ℕ → List ℕ → Result (List ℕ) ℕ
 behind field bytes = if bytes_eq (take (length field) bytes) field then Ok (drop (length field) bytes) else Err (length bytes)
-
-infixl 10 ◌>>=◌
-abbrev pub ◌>>=◌ : {A B : Type 0} → Result A ℕ → (A → Result B ℕ) → Result B ℕ
-(Ok x) >>= f = f x
-(Err left) >>= f = Err left
 
 -- the bytes behind fields that stand one after the other, or how many there are from the first one on that doesn't
 abbrev pub behind_all : List (List ℕ) → List ℕ → Result (List ℕ) ℕ
