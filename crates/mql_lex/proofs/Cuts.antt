@@ -1,12 +1,12 @@
 -- Where a token ends: the bytes that cut it off from what stands behind it.
-use Rattle.std.proofs.Common.{◌≡◌, ℕ, zero, suc, ◌+◌, ◌-◌, ◌<◌, ◌≤◌, Bool, true, false, not, ◌||◌, ◌==◌, List, [], ◌∷◌, ◌++◌, length, drop, codes, Option, Some, None, Result, Ok, Err, refl, sym, ap, subst, ◌∙◌, append-nil, length-append, if◌then◌else◌, arith}
+use Rattle.std.proofs.Common.{◌≡◌, ℕ, zero, suc, ◌+◌, ◌-◌, ◌<◌, ◌≤◌, Bool, true, false, not, ◌==◌, List, [], ◌∷◌, ◌++◌, length, drop, codes, Option, Some, None, Result, Ok, Err, refl, sym, ap, subst, ◌∙◌, append-nil, length-append, if◌then◌else◌, arith}
 use Rattle.std.specs.Prelude.{⊤}
 use Rattle.std.specs.List.{AllByRecursion, list_any}
 use Rattle.std.specs.Option.{option_map_or}
 use Rattle.std.proofs.Math.Seq.{drop-append_seam}
 use Rattle.mql_lex.specs.Grammar.{IsToken, may_end, is_blank}
 use Rattle.mql_lex.specs.Machine.{next, piece_of}
-use Rattle.mql_lex.specs.Reading.{reach, ended, piece_reading, put_before, with_piece, token_of, lexed}
+use Rattle.mql_lex.specs.Reading.{reach, ended, piece_reading, put_before, with_piece, lexed}
 use Rattle.mql_lex.specs.Tokens.{IsLongest, Leads, no_more, a_token}
 use Rattle.mql_lex.specs.declared.phase.Phase.{Phase}
 use Rattle.mql_lex.specs.declared.phase.Phase.TheVariants.{Start, Named, Whole, Bare, Fraction, Marked, MarkSigned, Power, Minutes, Counted, Counting, Within, Escaped, Closed, Marking, Equals, Bang, Angle, Blanks, Comment}

@@ -1,22 +1,17 @@
 -- Samples cut into blocks.
-use Rattle.std.proofs.Common.{◌≡◌, ◌==◌, ◌&&◌, nat_lt, nat_le, ℕ, zero, suc, ◌+◌, ◌-◌, ◌^◌, ◌<◌, ◌≤◌, min, max, Bool, true, false, ℤ, pos, unsigned_abs, List, [], ◌∷◌, ◌++◌, length, get_or, take, drop, map, Option, Some, None, refl, ap, ap₂, sym, subst, ◌∙◌, inl, inr, arith, append_assoc, length-append, length-drop}
-use Rattle.std.proofs.Math.Nat.{pow-le-pow_right}
+use Rattle.std.proofs.Common.{◌≡◌, ◌==◌, nat_le, ℕ, zero, suc, ◌+◌, ◌-◌, ◌<◌, ◌≤◌, true, false, List, [], ◌∷◌, ◌++◌, length, get_or, take, drop, Some, None, refl, ap, sym, subst, ◌∙◌, arith, append_assoc, length-drop}
 use Rattle.std.proofs.Math.Seq.{take-suc, take-add}
-use Rattle.std.proofs.lemmas.Bool.{and_left, and_right, and_from, and_parts}
+use Rattle.std.proofs.lemmas.Bool.{and_left, and_right, and_from}
 use Rattle.std.proofs.lemmas.Bool.Decides.{nat_tests}
 use Rattle.std.proofs.lemmas.List.{map-append, length-take-le, take-append-drop, append-nil}
 use Rattle.std.specs.List.{AllByRecursion}
 use Rattle.std.specs.Prelude.{⊤}
-use Rattle.std.specs.Option.{unwrap_or}
-use Rattle.std.specs.Ordering.{int_eq}
-use Rattle.std.proofs.lemmas.Bool.Decides.{Decides-int_eq}
 use Rattle.vm_base.specs.declared.stamped.Stamped.{Stamped}
-use Rattle.vm_base.specs.Number.{form_of}
-use Rattle.vm_block.specs.Block.{own_shift, lesser, least_shift, common_shift, values_of}
-use Rattle.vm_block.specs.Cut.{share_exponent, fit_one_block, joined, AreFull, IsCut}
-use Rattle.vm_block.specs.Reading.{greatest_size, IsShared, join_of, Joined}
+use Rattle.vm_block.specs.Block.{values_of}
+use Rattle.vm_block.specs.Cut.{share_exponent, fit_one_block, joined, AreFull}
+use Rattle.vm_block.specs.Reading.{IsShared, join_of, Joined}
 use Rattle.vm_block.specs.declared.shared.Shared.{Shared}
-use Rattle.vm_block.proofs.Exponents.{least-append, greatest-append, share_by_greatest, shared_shares, joins}
+use Rattle.vm_block.proofs.Exponents.{shared_shares, joins}
 
 -- ---- how far a block goes
 

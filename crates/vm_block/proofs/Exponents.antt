@@ -1,5 +1,5 @@
 -- The exponent that values share, and how great their mantissas are at it.
-use Rattle.std.proofs.Common.{◌≡◌, ◌==◌, ◌&&◌, if◌then◌else◌, nat_lt, ℕ, zero, suc, ◌+◌, ◌-◌, ◌*◌, ◌^◌, ◌<◌, ◌≤◌, min, max, Bool, true, false, ℤ, pos, unsigned_abs, List, [], ◌∷◌, ◌++◌, Option, Some, None, refl, ap, ap₂, sym, subst, ◌∙◌, inl, inr, arith, pow-add}
+use Rattle.std.proofs.Common.{◌≡◌, ◌==◌, ◌&&◌, if◌then◌else◌, nat_lt, ℕ, zero, suc, ◌+◌, ◌-◌, ◌*◌, ◌^◌, ◌<◌, ◌≤◌, min, max, true, false, ℤ, pos, unsigned_abs, List, [], ◌∷◌, ◌++◌, Option, Some, None, refl, ap, ap₂, sym, subst, ◌∙◌, inl, inr, arith, pow-add}
 use Rattle.std.proofs.Math.Nat.{mul-le-mul_right, mul-lt-mul_of_pos_right, mul_assoc, pow-le-pow_right, zero-mul}
 use Rattle.std.proofs.lemmas.Bool.{cases_eq, cases_lt}
 use Rattle.std.proofs.lemmas.Bool.Decides.{nat_tests}
@@ -7,12 +7,12 @@ use Rattle.std.specs.List.{list_all}
 use Rattle.std.specs.Option.{unwrap_or}
 use Rattle.std.specs.Ordering.{int_eq}
 use Rattle.vm_base.specs.Form.{ten_pos, unsigned_abs-signed}
-use Rattle.vm_base.specs.Number.{form_of, signed, number}
-use Rattle.vm_base.specs.Sample.{is_sample, mantissa, IsSampleForm}
+use Rattle.vm_base.specs.Number.{form_of}
+use Rattle.vm_base.specs.Sample.{is_sample, mantissa}
 use Rattle.vm_base.proofs.NumberLaws.{int_eq-signed, number-form_of}
 use Rattle.vm_base.proofs.SampleLaws.{IsSampleForm-form_of}
 use Rattle.vm_block.specs.Block.{own_shift, lesser, least_shift, common_shift}
-use Rattle.vm_block.specs.Cut.{has_18_digits, share_exponent}
+use Rattle.vm_block.specs.Cut.{share_exponent}
 use Rattle.vm_block.specs.Reading.{greatest_size, IsShared, raise_of, join_of, Joined}
 use Rattle.vm_block.specs.declared.shared.Shared.{Shared}
 

@@ -1,9 +1,8 @@
 -- Mantissas of values at an exponent that their block has.
-use Rattle.std.proofs.Common.{◌≡◌, ◌==◌, ◌&&◌, if◌then◌else◌, nat_lt, ℕ, zero, suc, ◌+◌, ◌-◌, ◌*◌, ◌^◌, ◌<◌, ◌≤◌, min, Bool, true, false, ℤ, pos, negsuc, ◌*ℤ◌, ◌+ℤ◌, ◌-ℤ◌, unsigned_abs, All, w64, of_z, List, [], ◌∷◌, ◌++◌, length, get_or, take, map, Option, Some, None, refl, ap, ap₂, sym, subst, ◌∙◌, inl, inr, arith, pow-add, add-one}
+use Rattle.std.proofs.Common.{◌≡◌, ◌==◌, if◌then◌else◌, nat_lt, ℕ, zero, suc, ◌+◌, ◌-◌, ◌*◌, ◌^◌, ◌<◌, ◌≤◌, min, Bool, true, false, ℤ, pos, negsuc, ◌*ℤ◌, unsigned_abs, All, w64, of_z, List, [], ◌∷◌, ◌++◌, length, get_or, take, map, Option, Some, None, refl, ap, ap₂, sym, subst, ◌∙◌, inl, inr, arith, pow-add}
 use Rattle.std.proofs.Math.Nat.{lt_of_mul-lt-mul_right, mul_assoc, one-le-mul}
 use Rattle.std.proofs.lemmas.Bool.{cases_Bool, and_from}
 use Rattle.std.proofs.lemmas.Bool.Decides.{nat_tests}
-use Rattle.std.proofs.lemmas.Int.{ints}
 use Rattle.std.proofs.lemmas.List.Folds.{list_all_at, list_all-append}
 use Rattle.std.proofs.lemmas.List.{length-map, map-append}
 use Rattle.std.specs.Int.{is_negative}
@@ -11,8 +10,8 @@ use Rattle.std.specs.List.{list_all}
 use Rattle.std.specs.Option.{unwrap_or}
 use Rattle.std.specs.Ordering.{int_eq}
 use Rattle.vm_base.specs.Form.{ten_pos, unsigned_abs-signed}
-use Rattle.vm_base.specs.Number.{form_of, signed, number}
-use Rattle.vm_base.specs.Sample.{is_sample, mantissa, IsSampleForm}
+use Rattle.vm_base.specs.Number.{form_of, signed}
+use Rattle.vm_base.specs.Sample.{is_sample, mantissa}
 use Rattle.vm_base.proofs.NumberLaws.{int_eq-signed, number-form_of, is_negative-form}
 use Rattle.vm_base.proofs.SampleLaws.{IsSampleForm-form_of}
 use Rattle.vm_base.specs.declared.stamped.Stamped.{Stamped}

@@ -1,5 +1,5 @@
 -- What is written and what is read, for other crates' proofs too.
-use Rattle.std.proofs.Common.{◌≡◌, ℕ, zero, suc, ◌+◌, ◌-◌, ◌*◌, ◌^◌, ◌<◌, ◌≤◌, Bool, true, false, ℤ, pos, negsuc, ◌*ℤ◌, ◌+ℤ◌, neg_ℤ, unsigned_abs, List, [], ◌∷◌, ◌++◌, length, take, drop, map, slice_get, Option, Some, None, refl, ap, ap₂, sym, subst, ◌∙◌, arith, length-append, length-drop}
+use Rattle.std.proofs.Common.{◌≡◌, ℕ, zero, suc, ◌+◌, ◌-◌, ◌*◌, ◌^◌, ◌<◌, ◌≤◌, ℤ, pos, negsuc, ◌*ℤ◌, ◌+ℤ◌, neg_ℤ, unsigned_abs, List, [], ◌∷◌, ◌++◌, length, take, drop, map, slice_get, Option, Some, refl, ap, ap₂, sym, subst, ◌∙◌, arith, length-drop}
 use Rattle.std.proofs.Math.Nat.{le_of_mul-le-mul_right, one-le-mul}
 use Rattle.std.proofs.lemmas.Bool.{and_parts}
 use Rattle.std.proofs.lemmas.Int.{ints}
@@ -10,8 +10,7 @@ use Rattle.std.specs.Ordering.{int_eq}
 use Rattle.vm_base.specs.Form.{ten_pos}
 use Rattle.vm_base.specs.Sample.{is_sample}
 use Rattle.vm_base.specs.declared.stamped.Stamped.{Stamped}
-use Rattle.vm_codec.specs.Coding.{IsColumn, chosen, spelling}
-use Rattle.vm_codec.specs.declared.coding.Coding.{Coding}
+use Rattle.vm_codec.specs.Coding.{chosen, spelling}
 use Rattle.vm_block.specs.Block.{times_of, values_of, scaled_by, common_exponent, IsBlock}
 use Rattle.vm_block.specs.Header.{IsHeader, header_bytes}
 use Rattle.vm_block.specs.Reading.{AreFields}

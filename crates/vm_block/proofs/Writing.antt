@@ -1,5 +1,5 @@
 -- What is written of samples is their block.
-use Rattle.std.proofs.Common.{◌≡◌, ◌==◌, ◌&&◌, ◌||◌, nat_lt, nat_le, int_le, int_lt, ℕ, zero, suc, ◌+◌, ◌-◌, ◌^◌, ◌<◌, ◌≤◌, Bool, true, false, ℤ, pos, ◌+ℤ◌, ◌-ℤ◌, ◌*ℤ◌, unsigned_abs, All, List, [], ◌∷◌, ◌++◌, length, get_or, take, drop, map, slice_get, Some, refl, ap, ap₂, sym, subst, ◌∙◌, arith, length-append}
+use Rattle.std.proofs.Common.{◌≡◌, ◌==◌, ◌&&◌, ◌||◌, nat_lt, nat_le, int_le, int_lt, ℕ, zero, suc, ◌+◌, ◌-◌, ◌^◌, ◌<◌, ◌≤◌, true, ℤ, pos, ◌+ℤ◌, ◌-ℤ◌, ◌*ℤ◌, unsigned_abs, All, List, [], ◌∷◌, ◌++◌, length, get_or, take, drop, map, slice_get, Some, refl, ap, ap₂, sym, subst, ◌∙◌, arith, length-append}
 use Rattle.std.proofs.lemmas.Bool.{and_from, and_parts}
 use Rattle.std.proofs.lemmas.Bool.Decides.{nat_tests, Decides-int_eq}
 use Rattle.std.proofs.lemmas.Int.{ints}
@@ -12,9 +12,9 @@ use Rattle.vm_base.specs.Sorted.{IsUp}
 use Rattle.vm_base.specs.Stamped.{is_in_order}
 use Rattle.vm_base.specs.declared.stamped.Stamped.{Stamped}
 use Rattle.vm_codec.specs.Coding.{IsColumn, IsInBounds, in_bounds, chosen}
-use Rattle.vm_block.specs.Block.{times_of, values_of, rise_from, scaled_by, are_values, common_shift, common_exponent, IsBlock}
+use Rattle.vm_block.specs.Block.{times_of, values_of, rise_from, scaled_by, common_shift, common_exponent}
 use Rattle.vm_block.specs.Cut.{AreOneBlock, fit_one_block}
-use Rattle.vm_block.specs.Header.{IsHeader, is_count, is_exponent, is_time, is_last_time, is_column_len, header_bytes}
+use Rattle.vm_block.specs.Header.{is_count, is_exponent, is_time, is_last_time, is_column_len, header_bytes}
 use Rattle.vm_block.specs.Reading.{raised_by}
 use Rattle.vm_block.specs.Written.{IsWritten}
 use Rattle.vm_block.specs.declared.header.BlockHeader.{BlockHeader}

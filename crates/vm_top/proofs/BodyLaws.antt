@@ -10,9 +10,6 @@ use Rattle.vm_labels.specs.declared.row.Row.{Row}
 use Rattle.vm_lines.specs.Lines.{is_too_long}
 use Rattle.vm_machine.specs.Batches.{batches_of, enough, with_more}
 use Rattle.vm_machine.proofs.BatchLaws.{no_row}
-use Rattle.vm_promtext.specs.Means.{rows_of, rows_of_line}
-use Rattle.vm_promtext.specs.Reading.{reading}
-use Rattle.vm_promtext.specs.declared.line.Line.{Line}
 use Rattle.vm_script.specs.Command.{is_body_end}
 use Rattle.vm_top.specs.Playing.{Adds, BodyOf, Gathers}
 use Rattle.vm_top.specs.Rows.{format_rows, or_none}

@@ -1,10 +1,10 @@
 -- A script is read in one way: either all its lines are commands, or one line is the first that is none.
-use Rattle.std.proofs.Common.{◌≡◌, ℕ, ◌+◌, List, [], ◌∷◌, ◌++◌, length, length-append, append_assoc, codes, Option, Some, None, true, false, arith, refl, sym, ap, ◌∙◌, subst}
+use Rattle.std.proofs.Common.{◌≡◌, ℕ, ◌+◌, List, [], ◌∷◌, ◌++◌, append_assoc, codes, Some, true, false, sym, ap, ◌∙◌, subst}
 use Rattle.std.specs.List.{AllByRecursion}
 use Rattle.vm_script.specs.Command.{command_of, is_body_end}
 use Rattle.vm_script.specs.declared.command.Command.{Command}
 use Rattle.vm_script.specs.declared.command.Command.TheVariants.{Import, Query, Run, End, Close}
-use Rattle.vm_top.specs.Script.{Entry, IsEntry, AreWithin, HasBody, IsCutOff, Breaks, IsScript, IsBadAt, entry_lines, lines_behind, script_lines}
+use Rattle.vm_top.specs.Script.{Entry, IsEntry, AreWithin, HasBody, IsCutOff, IsScript, IsBadAt, entry_lines, lines_behind, script_lines}
 
 head_same : {A : Type 0} (x y : A) (xs ys : List A) → x ∷ xs ≡ y ∷ ys → x ≡ y
 head_same x y xs ys same = cc

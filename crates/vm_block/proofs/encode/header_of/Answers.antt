@@ -1,6 +1,5 @@
 -- The times at both ends, and the first mantissa.
-use Rattle.std.proofs.Common.{pos, refl, arith}
-use Rattle.std.proofs.lemmas.Option.{slice_get-get_or}
+use Rattle.std.proofs.Common.{refl, arith}
 use Rattle.vm_block.proofs.Writing.{time_at}
 use Rattle.vm_block.proofs.encode.header_of.Goals as goal
 

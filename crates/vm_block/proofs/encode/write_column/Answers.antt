@@ -1,5 +1,5 @@
 -- The bytes that are left are those that were written.
-use Rattle.std.proofs.Common.{◌≡◌, List, ℕ, take, length, ap, sym, subst, ◌∙◌, arith}
+use Rattle.std.proofs.Common.{take, length, ap, sym, subst, ◌∙◌, arith}
 use Rattle.std.proofs.lemmas.List.{take_at}
 use Rattle.vm_codec.specs.Coding.{IsColumn}
 use Rattle.vm_block.proofs.encode.write_column.Goals as goal
