@@ -3,7 +3,7 @@
 use Rattle.std.proofs.Common.{◌≡◌, ℕ, ◌+◌, ◌<◌, ◌&&◌, Bool, true, false, cond, List, [], ◌∷◌, ◌++◌, length, map, filter, flat_map, count_by, sum_by, IsPermutation, refl, sym, ap, ap₂, ◌∙◌, arith}
 use Rattle.std.specs.Bool.{Decides}
 use Rattle.std.specs.List.{AllByRecursion, dedup, dedup_from}
-use Rattle.std.proofs.lemmas.List.Sums.{sum_by-append}
+use Rattle.std.proofs.lemmas.List.Sums.{sum_by-append, sum_by-cons}
 use Rattle.std.proofs.lemmas.List.Sorted.{sum_by-IsPermutation}
 use Rattle.vm_base.specs.Sorted.{IsOrder, IsUp, SameCounts, put_in, sorted}
 use Rattle.vm_base.specs.Stamped.{is_in_order}
@@ -124,7 +124,9 @@ count-flat_map : {X Y : Type 0} (f : X → List Y) (t : Y → Bool) (xs : List X
     → count_by t (flat_map f xs) ≡ sum_by (λ x. count_by t (f x)) xs
 count-flat_map f t [] = refl
 count-flat_map f t (x ∷ xs) =
-    sum_by-append (λ y. cond (t y) 1 0) (f x) (flat_map f xs) ∙ ap (λ n. count_by t (f x) + n) (count-flat_map f t xs)
+    sum_by-append (λ y. cond (t y) 1 0) (f x) (flat_map f xs)
+    ∙ ap (λ n. count_by t (f x) + n) (count-flat_map f t xs)
+    ∙ sym (sum_by-cons (λ y. count_by t (f y)) x xs)
 
 -- a list in another order has the same items of its items
 pub counts-flat_map : {X Y : Type 0} (f : X → List Y) (xs ys : List X) → IsPermutation xs ys

@@ -1,5 +1,5 @@
 -- Laws of the series of rows, for those who store, merge or read them.
-use Rattle.std.proofs.Common.{◌≡◌, ℕ, ◌<◌, Bool, true, false, cond, List, [], ◌∷◌, ◌++◌, length, map, filter, refl, sym, ap, ap₂, ◌∙◌, subst, true≢false, append-nil, arith}
+use Rattle.std.proofs.Common.{◌≡◌, ℕ, ◌<◌, Bool, true, false, cond, List, [], ◌∷◌, ◌++◌, length, map, filter, refl, sym, ap, ap₂, ◌∙◌, subst, true≢false, append-nil, arith, Ordering, Less, Equal, Greater, is_lt, is_le}
 use Rattle.std.specs.List.{AllByRecursion, dedup}
 use Rattle.std.proofs.lemmas.List.{map-append}
 use Rattle.std.proofs.lemmas.List.Elements.{filter-append}
@@ -11,7 +11,7 @@ use Rattle.vm_base.proofs.SortedLaws.{sorted-same_counts, up-sorted}
 use Rattle.vm_base.proofs.StampedLaws.{stamped_order}
 use Rattle.vm_dedup.specs.Visible.{samples, stamped, visible}
 use Rattle.vm_index.specs.Index.{SetsRise, is_set_below}
-use Rattle.vm_index.proofs.DistinctLaws.{below_apart, up_dedup, upto_from}
+use Rattle.vm_index.proofs.DistinctLaws.{below_apart, up_dedup}
 use Rattle.vm_index.proofs.ListLaws.{all_more, filter_none}
 use Rattle.vm_labels.specs.Labels.{is_in_label_order, label_cmp, label_eq}
 use Rattle.vm_labels.specs.declared.pair.Pair.{Pair}
@@ -52,7 +52,12 @@ sets_apart_too a b below = go (label_eq a b) refl
     go false apart = apart
 
 sets_upto : (a b : List Pair) → is_set_below a b ≡ true → is_in_label_order a b ≡ true
-sets_upto = upto_from label_cmp label_cmp-total label_eq label_eq-Decides labels_tied
+sets_upto a b below = go (label_cmp a b) below
+  where
+    go : (o : Ordering) → is_lt o ≡ true → is_le o ≡ true
+    go Less h = refl
+    go Equal h = refl
+    go Greater h = h
 
 -- ---- what a reader may expect
 
