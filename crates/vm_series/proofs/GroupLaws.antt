@@ -20,7 +20,7 @@ use Rattle.vm_series.specs.Series.{row_of, rows_of_piece, series_among, series_o
 use Rattle.vm_series.specs.Pieces.{InLabelOrder, OfOneSet, samples_of}
 use Rattle.vm_series.specs.declared.series.Piece.{Piece}
 use Rattle.vm_series.specs.declared.series.Series.{Series}
-use Rattle.vm_series.proofs.Lists.{all_flat_map, all_map, all_of, all_sorted, dedup_alike, counts-flat_map, some_sorted}
+use Rattle.vm_series.proofs.Lists.{all_flat_map, all_map, all_of, all_sorted, dedup_alike, counts-flat_map, length-sorted}
 use Rattle.vm_series.proofs.SeriesLaws.{AllBelow, labels_of, series-append, series-same_counts}
 
 abbrev rows_of_all : List Piece → List Row
@@ -198,9 +198,10 @@ pub series-one : (d : ℕ) (labels : List Pair) (group : List Piece) → OfOneSe
     → series_of d (rows_of_all group) ≡ record { labels = labels; samples = thinned d (sorted is_in_order (samples_of group)) } ∷ []
 series-one d labels group alike some =
     let rows = rows_of_all group in
-    let many : 0 < length (labels_of rows) = subst (λ n. 0 < n) (sym (long rows ∙ length-rows group)) some in
+    let many : 0 < length (sorted is_in_label_order (labels_of rows)) =
+    subst (λ n. 0 < n) (sym (length-sorted is_in_label_order (labels_of rows) ∙ long rows ∙ length-rows group)) some in
     let sets : sets_among rows ≡ labels ∷ [] =
-    dedup_alike label_eq label_eq-Decides labels (sorted is_in_label_order (labels_of rows)) (some_sorted is_in_label_order (labels_of rows) many)
+    dedup_alike label_eq label_eq-Decides labels (sorted is_in_label_order (labels_of rows)) many
     (all_sorted (λ l. l ≡ labels) is_in_label_order (labels_of rows) (row_labels (λ l. l ≡ labels) group alike)) in
     ap (map (series_among d rows)) sets
     ∙ ap (λ s. record { labels = labels; samples = thinned d (sorted is_in_order s) } ∷ []) (own_samples labels group alike)

@@ -1,6 +1,6 @@
 -- Lists that are sorted or thinned, and of which each item is kept once: what holds of each item, and how often
 -- an item stands there.
-use Rattle.std.proofs.Common.{◌≡◌, ℕ, ◌+◌, ◌<◌, ◌&&◌, Bool, true, false, cond, List, [], ◌∷◌, ◌++◌, length, map, filter, flat_map, count_by, sum_by, IsPermutation, refl, sym, ap, ap₂, ◌∙◌, arith}
+use Rattle.std.proofs.Common.{◌≡◌, ℕ, suc, ◌+◌, ◌<◌, ◌&&◌, Bool, true, false, cond, List, [], ◌∷◌, ◌++◌, length, map, filter, flat_map, count_by, sum_by, IsPermutation, refl, sym, ap, ap₂, ◌∙◌, arith}
 use Rattle.std.specs.Bool.{Decides}
 use Rattle.std.specs.List.{AllByRecursion, dedup, dedup_from}
 use Rattle.std.proofs.lemmas.List.Sums.{sum_by-append, sum_by-cons}
@@ -60,17 +60,17 @@ pub map_same : {X Y : Type 0} (f g : X → Y) (xs : List X) → AllByRecursion (
 map_same f g [] all = refl
 map_same f g (x ∷ xs) all = ap₂ ◌∷◌ all.0 (map_same f g xs all.1)
 
--- ---- lists that aren't empty
+-- ---- how many items there are
 
-some_put_in : {X : Type 0} (le : X → X → Bool) (x : X) (ys : List X) → 0 < length (put_in le x ys)
-some_put_in le x [] = omega arith
-some_put_in le x (y ∷ ys) =
-    elim (le x y) as (λ b. 0 < length (cond b (x ∷ y ∷ ys) (y ∷ put_in le x ys)))
-    [ true ↦ omega arith | false ↦ omega arith ]
+length-put_in : {X : Type 0} (le : X → X → Bool) (x : X) (ys : List X) → length (put_in le x ys) ≡ suc (length ys)
+length-put_in le x [] = refl
+length-put_in le x (y ∷ ys) =
+    elim (le x y) as (λ b. length (cond b (x ∷ y ∷ ys) (y ∷ put_in le x ys)) ≡ suc (suc (length ys)))
+    [ true ↦ refl | false ↦ ap suc (length-put_in le x ys) ]
 
-pub some_sorted : {X : Type 0} (le : X → X → Bool) (xs : List X) → 0 < length xs → 0 < length (sorted le xs)
-some_sorted le [] some = absurd (omega arith)
-some_sorted le (x ∷ xs) some = some_put_in le x (sorted le xs)
+pub length-sorted : {X : Type 0} (le : X → X → Bool) (xs : List X) → length (sorted le xs) ≡ length xs
+length-sorted le [] = refl
+length-sorted le (x ∷ xs) = length-put_in le x (sorted le xs) ∙ ap suc (length-sorted le xs)
 
 pub some_thinned : (d : ℕ) (samples : List Stamped) → 0 < length samples → 0 < length (thinned d samples)
 some_thinned d [] some = absurd (omega arith)

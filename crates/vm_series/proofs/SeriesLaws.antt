@@ -19,7 +19,7 @@ use Rattle.vm_labels.specs.declared.row.Row.{Row}
 use Rattle.vm_labels.proofs.OrderLaws.{label_cmp-total, label_eq-Decides, label_order, labels_tied}
 use Rattle.vm_series.specs.Series.{AreSeries, HasSample, IsByTime, series_among, series_of, sets_among}
 use Rattle.vm_series.specs.declared.series.Series.{Series}
-use Rattle.vm_series.proofs.Lists.{all_of, all_sorted, all_once, all_map, all_mapped, all_turned, map_same, some_sorted, some_thinned, all_thinned, up_thinned, counts-map, counts-filter, sorted-append, dedup-append}
+use Rattle.vm_series.proofs.Lists.{all_of, all_sorted, all_once, all_map, all_mapped, all_turned, map_same, length-sorted, some_thinned, all_thinned, up_thinned, counts-map, counts-filter, sorted-append, dedup-append}
 
 -- the label sets of rows, one by one
 abbrev pub labels_of : List Row → List (List Pair)
@@ -92,7 +92,7 @@ each_seen (row ∷ rows) = (first ((label_eq-Decides row.labels row.labels).1 re
 pub each_some : (d : ℕ) (rows : List Row) → AllByRecursion HasSample (series_of d rows)
 each_some d rows =
     all_map HasSample (series_among d rows) (sets_among rows)
-    (all_more _ _ (λ set seen. some_thinned d (sorted is_in_order (samples set rows)) (some_sorted is_in_order (samples set rows) seen))
+    (all_more _ _ (λ set seen. some_thinned d (sorted is_in_order (samples set rows)) (subst (λ n. 0 < n) (sym (length-sorted is_in_order (samples set rows))) seen))
     (sets_among rows) (all_sets (IsSeen rows) rows (each_seen rows)))
 
 -- the samples of each series are in order
