@@ -30,11 +30,7 @@ pub fn gather(
 }
 
 /// The series of pieces in label order.
-fn gathered(
-    alloc: Global,
-    pieces: &[Piece<'_>],
-    interval: u64,
-) -> Result<List<Series>, AllocError>
+fn gathered(alloc: Global, pieces: &[Piece<'_>], interval: u64) -> Result<List<Series>, AllocError>
     requires { InLabelOrder pieces.now }
     ensures { IfOk result (λ all. all ≡ series_of interval (flat_map rows_of_piece pieces.now)) }
 {
@@ -99,11 +95,7 @@ fn samples_of(alloc: Global, pieces: &[Piece<'_>]) -> Result<Vec<Stamped>, Alloc
 }
 
 /// The samples that stay of samples in order.
-fn thinned(
-    alloc: Global,
-    samples: &[Stamped],
-    interval: u64,
-) -> Result<List<Stamped>, AllocError>
+fn thinned(alloc: Global, samples: &[Stamped], interval: u64) -> Result<List<Stamped>, AllocError>
     ensures { IfOk result (λ kept. kept ≡ thinned interval samples.now) }
 {
     let mut kept = List::new(alloc);
