@@ -21,7 +21,7 @@ use Rattle.vm_series.specs.Pieces.{InLabelOrder, OfOneSet, samples_of}
 use Rattle.vm_series.specs.declared.series.Piece.{Piece}
 use Rattle.vm_series.specs.declared.series.Series.{Series}
 use Rattle.vm_series.proofs.Lists.{all_flat_map, all_map, all_of, all_sorted, dedup_alike, counts-flat_map, length-sorted}
-use Rattle.vm_series.proofs.SeriesLaws.{AllBelow, labels_of, series-append, series-same_counts}
+use Rattle.vm_series.proofs.SeriesLaws.{AllBelow, labels_of, samples_back, series-append, series-same_counts}
 
 abbrev rows_of_all : List Piece → List Row
 rows_of_all = flat_map rows_of_piece
@@ -165,10 +165,6 @@ group_more d pieces rest group at len piece done more whole behind front some is
     ∙ so_far
 
 -- ---- the series of a group
-
-samples_back : (labels : List Pair) (list : List Stamped) → map stamped (map (row_of labels) list) ≡ list
-samples_back labels [] = refl
-samples_back labels (s ∷ more) = ap (λ rest. s ∷ rest) (samples_back labels more)
 
 -- the samples of the rows are those of the pieces
 all_samples : (pieces : List Piece) → map stamped (rows_of_all pieces) ≡ samples_of pieces

@@ -1,8 +1,8 @@
 -- Lists that are sorted or thinned, and of which each item is kept once: what holds of each item, and how often
 -- an item stands there.
-use Rattle.std.proofs.Common.{◌≡◌, ℕ, suc, ◌+◌, ◌<◌, ◌&&◌, Bool, true, false, cond, List, [], ◌∷◌, ◌++◌, length, map, filter, flat_map, count_by, sum_by, IsPermutation, refl, sym, ap, ap₂, ◌∙◌, arith}
+use Rattle.std.proofs.Common.{◌≡◌, ℕ, suc, ◌+◌, ◌<◌, ◌&&◌, ◌||◌, Bool, true, false, cond, List, [], ◌∷◌, ◌++◌, length, map, filter, flat_map, count_by, sum_by, IsPermutation, refl, sym, ap, ap₂, ◌∙◌, arith}
 use Rattle.std.specs.Bool.{Decides}
-use Rattle.std.specs.List.{AllByRecursion, dedup, dedup_from}
+use Rattle.std.specs.List.{AllByRecursion, dedup, dedup_from, list_any}
 use Rattle.std.proofs.lemmas.List.Sums.{sum_by-append, sum_by-cons}
 use Rattle.std.proofs.lemmas.List.Sorted.{sum_by-IsPermutation}
 use Rattle.vm_base.specs.Sorted.{IsOrder, IsUp, SameCounts, put_in, sorted}
@@ -14,6 +14,10 @@ use Rattle.vm_index.proofs.DistinctLaws.{all_deduped}
 use Rattle.vm_index.proofs.ListLaws.{all_append, all_more}
 
 -- ---- what holds of each item
+
+both_false : (a b : Bool) → (a || b) ≡ false → (a ≡ false) × (b ≡ false)
+both_false true b none = absurd cc
+both_false false b none = (refl, none)
 
 module _ {X : Type 0} (P : X → Type 0) where
   pub all_of : ((x : X) → P x) → (xs : List X) → AllByRecursion P xs
@@ -46,6 +50,18 @@ module _ {X : Type 0} (P : X → Type 0) where
       → AllByRecursion P (flat_map f ys)
   all_flat_map f [] all = tt
   all_flat_map f (y ∷ ys) all = all_append P (f y) (flat_map f ys) all.0 (all_flat_map f ys all.1)
+
+-- a test that no item passes
+module _ {X : Type 0} (t : X → Bool) where
+  pub none_any : (xs : List X) → AllByRecursion (λ x. t x ≡ false) xs → list_any t xs ≡ false
+  none_any [] none = refl
+  none_any (x ∷ xs) none = rw (none.0) (none_any xs none.1)
+
+  pub any_none : (xs : List X) → list_any t xs ≡ false → AllByRecursion (λ x. t x ≡ false) xs
+  any_none [] none = tt
+  any_none (x ∷ xs) none =
+      let both = both_false (t x) (list_any t xs) none in
+      (both.0, any_none xs both.1)
 
 -- what holds of each item of a list with each of another
 module _ {X Y : Type 0} (R : X → Y → Type 0) where

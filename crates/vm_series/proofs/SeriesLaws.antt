@@ -1,6 +1,6 @@
 -- Laws of the series of rows, for those who store, merge or read them.
-use Rattle.std.proofs.Common.{◌≡◌, ℕ, ◌<◌, Bool, true, false, cond, List, [], ◌∷◌, ◌++◌, length, map, filter, refl, sym, ap, ap₂, ◌∙◌, subst, true≢false, append-nil, arith, Ordering, Less, Equal, Greater, is_lt, is_le}
-use Rattle.std.specs.List.{AllByRecursion, dedup}
+use Rattle.std.proofs.Common.{◌≡◌, ℕ, ◌<◌, Bool, true, false, cond, ◌||◌, List, [], ◌∷◌, ◌++◌, length, map, filter, flat_map, refl, sym, ap, ap₂, ◌∙◌, subst, true≢false, append-nil, arith, Ordering, Less, Equal, Greater, is_lt, is_le}
+use Rattle.std.specs.List.{AllByRecursion, dedup, list_any}
 use Rattle.std.proofs.lemmas.List.{map-append}
 use Rattle.std.proofs.lemmas.List.Elements.{filter-append}
 use Rattle.vm_base.specs.Sorted.{IsUp, SameCounts, sorted}
@@ -11,15 +11,15 @@ use Rattle.vm_base.proofs.SortedLaws.{sorted-same_counts, up-sorted}
 use Rattle.vm_base.proofs.StampedLaws.{stamped_order}
 use Rattle.vm_dedup.specs.Visible.{samples, stamped, visible}
 use Rattle.vm_index.specs.Index.{SetsRise, is_set_below}
-use Rattle.vm_index.proofs.DistinctLaws.{below_apart, up_dedup}
-use Rattle.vm_index.proofs.ListLaws.{all_more, filter_none}
+use Rattle.vm_index.proofs.DistinctLaws.{any_dedup, any_sorted, below_apart, up_dedup}
+use Rattle.vm_index.proofs.ListLaws.{all_more, filter_all, filter_none}
 use Rattle.vm_labels.specs.Labels.{is_in_label_order, label_cmp, label_eq}
 use Rattle.vm_labels.specs.declared.pair.Pair.{Pair}
 use Rattle.vm_labels.specs.declared.row.Row.{Row}
 use Rattle.vm_labels.proofs.OrderLaws.{label_cmp-total, label_eq-Decides, label_order, labels_tied}
-use Rattle.vm_series.specs.Series.{AreSeries, HasSample, IsByTime, series_among, series_of, sets_among}
+use Rattle.vm_series.specs.Series.{AreSeries, HasSample, HaveWhatIsSeen, IsByTime, row_of, rows_of, series_among, series_of, sets_among}
 use Rattle.vm_series.specs.declared.series.Series.{Series}
-use Rattle.vm_series.proofs.Lists.{all_of, all_sorted, all_once, all_map, all_mapped, all_turned, map_same, length-sorted, some_thinned, all_thinned, up_thinned, counts-map, counts-filter, sorted-append, dedup-append}
+use Rattle.vm_series.proofs.Lists.{all_of, any_none, none_any, all_sorted, all_once, all_map, all_mapped, all_turned, map_same, length-sorted, some_thinned, all_thinned, up_thinned, counts-map, counts-filter, sorted-append, dedup-append}
 
 -- the label sets of rows, one by one
 abbrev pub labels_of : List Row → List (List Pair)
@@ -205,3 +205,52 @@ module _ (d : ℕ) (xs ys : List Row) (below : AllBelow (labels_of xs) (labels_o
       ∙ ap₂ ◌++◌
       (map_same (series_among d (xs ++ ys)) (series_among d xs) (sets_among xs) (all_more _ _ seen_first (sets_among xs) first_sets))
       (map_same (series_among d (xs ++ ys)) (series_among d ys) (sets_among ys) (all_more _ _ seen_others (sets_among ys) other_sets))
+
+-- ---- the rows of series
+
+pub samples_back : (labels : List Pair) (list : List Stamped) → map stamped (map (row_of labels) list) ≡ list
+samples_back labels [] = refl
+samples_back labels (s ∷ more) = ap (λ rest. s ∷ rest) (samples_back labels more)
+
+own_row : (set labels : List Pair) (list : List Stamped) → samples set (map (row_of labels) list) ≡ cond (label_eq set labels) list []
+own_row set labels list = go (label_eq set labels) refl
+  where
+    go : (b : Bool) → label_eq set labels ≡ b → samples set (map (row_of labels) list) ≡ cond b list []
+    go true same =
+        ap (map stamped) (filter_all (λ (row : Row). label_eq set row.labels) (map (row_of labels) list)
+        (all_map (λ (row : Row). label_eq set row.labels ≡ true) (row_of labels) list (all_of _ (λ _. same) list)))
+        ∙ samples_back labels list
+    go false apart =
+        ap (map stamped) (filter_none (λ (row : Row). label_eq set row.labels) (map (row_of labels) list)
+        (all_map (λ (row : Row). label_eq set row.labels ≡ false) (row_of labels) list (all_of _ (λ _. apart) list)))
+
+-- of a set among some that rise there is what is seen of it, and of another nothing
+samples_among : (d : ℕ) (rows : List Row) (set : List Pair) (sets : List (List Pair)) → SetsRise sets
+    → samples set (flat_map rows_of (map (series_among d rows) sets)) ≡ cond (list_any (label_eq set) sets) (visible d set rows) []
+samples_among d rows set [] up = refl
+samples_among d rows set (l ∷ ls) up =
+    samples-append set (rows_of (series_among d rows l)) (flat_map rows_of (map (series_among d rows) ls))
+    ∙ ap₂ ◌++◌ (own_row set l (visible d l rows)) (samples_among d rows set ls up.1)
+    ∙ go (label_eq set l) refl
+  where
+    go : (b : Bool) → label_eq set l ≡ b → cond b (visible d l rows) [] ++ cond (list_any (label_eq set) ls) (visible d set rows) []
+        ≡ cond (b || list_any (label_eq set) ls) (visible d set rows) []
+    go true same =
+        let is : set ≡ l = (label_eq-Decides set l).0 same in
+        let none : list_any (label_eq set) ls ≡ false =
+        none_any (label_eq set) ls (all_more _ _ (λ m lt. ap (λ s. label_eq s m) is ∙ sets_apart_too l m lt) ls up.0) in
+        rw none (append-nil (visible d l rows) ∙ ap (λ s. visible d s rows) (sym is))
+    go false apart = refl
+
+-- of each label set, the series of rows have just what is seen of it
+pub samples-series_of : (d : ℕ) (rows : List Row) → HaveWhatIsSeen d rows (series_of d rows)
+samples-series_of d rows set =
+    samples_among d rows set (sets_among rows) (sets_among-rise rows) ∙ go (list_any (label_eq set) (sets_among rows)) refl
+  where
+    among : list_any (label_eq set) (sets_among rows) ≡ list_any (label_eq set) (labels_of rows)
+    among = any_dedup label_eq label_eq-Decides (label_eq set) (sorted is_in_label_order (labels_of rows)) ∙ any_sorted is_in_label_order (label_eq set) (labels_of rows)
+
+    go : (b : Bool) → list_any (label_eq set) (sets_among rows) ≡ b → cond b (visible d set rows) [] ≡ visible d set rows
+    go true some = refl
+    go false none =
+        sym (ap (λ s. thinned d (sorted is_in_order s)) (none_here set rows (any_none (label_eq set) (labels_of rows) (sym among ∙ none))))

@@ -1,10 +1,10 @@
 -- The series of rows: each label set among them once, in order, with what is seen of it.
-use Rattle.std.specs.Prelude.{ℕ, ◌<◌, List, length, map}
+use Rattle.std.specs.Prelude.{◌≡◌, ℕ, ◌<◌, List, length, map, flat_map}
 use Rattle.std.specs.List.{AllByRecursion, dedup}
 use Rattle.vm_base.specs.Sorted.{IsUp, sorted}
 use Rattle.vm_base.specs.Stamped.{is_in_order}
 use Rattle.vm_base.specs.declared.stamped.Stamped.{Stamped}
-use Rattle.vm_dedup.specs.Visible.{visible}
+use Rattle.vm_dedup.specs.Visible.{samples, visible}
 use Rattle.vm_index.specs.Index.{SetsRise}
 use Rattle.vm_labels.specs.Labels.{is_in_label_order, label_eq}
 use Rattle.vm_labels.specs.declared.pair.Pair.{Pair}
@@ -52,3 +52,7 @@ pub record AreSeries (all : List Series) : Type 0 where
   pub rising : SetsRise (map (λ series. series.labels) all)
   pub some : AllByRecursion HasSample all
   pub ordered : AllByRecursion IsByTime all
+
+-- of each label set they have just what is seen of it among rows
+abbrev pub HaveWhatIsSeen : ℕ → List Row → List Series → Type 0
+HaveWhatIsSeen d rows all = (labels : List Pair) → samples labels (flat_map rows_of all) ≡ visible d labels rows

@@ -1,5 +1,5 @@
 //! What series are, said without gathering them.
-ghost use Rattle.vm_series.specs.Series.{AreSeries, series_of};
+ghost use Rattle.vm_series.specs.Series.{AreSeries, HaveWhatIsSeen, series_of};
 
 use vm_labels::Row;
 
@@ -7,4 +7,10 @@ use vm_labels::Row;
 /// series has at least one sample and all of its samples in order.
 pub fn each_series_is_in_order(interval: u64, rows: &[Row])
     ensures { AreSeries (series_of interval rows.now) }
+{}
+
+/// Does nothing. Its contract is a law: of each label set, rows' series have just the samples that are seen
+/// of it among the rows.
+pub fn series_have_what_is_seen(interval: u64, rows: &[Row])
+    ensures { HaveWhatIsSeen interval rows.now (series_of interval rows.now) }
 {}

@@ -1,6 +1,6 @@
 //! Series that were gathered by hand.
 
-use crate::{Piece, each_series_is_in_order, gather};
+use crate::{Piece, each_series_is_in_order, gather, series_have_what_is_seen};
 use std::alloc::Global;
 use std::test::Fail;
 use vm_base::{List, Sample, Stamped, Text};
@@ -27,25 +27,23 @@ fn at(time: u64, m: i64) -> Stamped {
 #[test]
 fn pieces_of_one_set_become_one_series(rt: HostRuntime) -> Result<(), Fail> {
     let (x, y) = (job(rt.alloc(), "x")?, job(rt.alloc(), "y")?);
+    let odd = [at(1, 1), at(3, 3)];
+    let other = [at(9, -4)];
+    let more = [at(2, 2), at(3, -1), at(3, 3)];
     let mut pieces = Vec::new(rt.alloc());
-    pieces.push(Piece {
-        labels: &y,
-        samples: &[at(1, 1), at(3, 3)],
-    })?;
-    pieces.push(Piece {
-        labels: &x,
-        samples: &[at(9, -4)],
-    })?;
-    pieces.push(Piece {
-        labels: &y,
-        samples: &[at(2, 2), at(3, -1), at(3, 3)],
-    })?;
+    for (labels, samples) in [
+        (&y, odd.as_slice()),
+        (&x, other.as_slice()),
+        (&y, more.as_slice()),
+    ] {
+        pieces.push(Piece { labels, samples })?;
+    }
     let all = gather(rt.alloc(), pieces, 0)?;
     let [first, second] = all.as_slice() else {
         panic!(rt; "two series, and not {}", all.len());
     };
     assert!(rt; first.labels == x);
-    assert_eq!(rt; first.samples.as_slice(), [at(9, -4)].as_slice());
+    assert_eq!(rt; first.samples.as_slice(), other.as_slice());
     assert!(rt; second.labels == y);
     assert_eq!(rt;
         second.samples.as_slice(),
@@ -57,19 +55,16 @@ fn pieces_of_one_set_become_one_series(rt: HostRuntime) -> Result<(), Fail> {
 #[test]
 fn the_last_sample_of_an_interval_stays(rt: HostRuntime) -> Result<(), Fail> {
     let (x, y) = (job(rt.alloc(), "x")?, job(rt.alloc(), "y")?);
+    let late = [at(10, 2), at(11, 3)];
+    let early = [at(4, 7), at(20, 1)];
     let mut pieces = Vec::new(rt.alloc());
-    pieces.push(Piece {
-        labels: &x,
-        samples: &[at(10, 2), at(11, 3)],
-    })?;
-    pieces.push(Piece {
-        labels: &y,
-        samples: &[],
-    })?;
-    pieces.push(Piece {
-        labels: &x,
-        samples: &[at(4, 7), at(20, 1)],
-    })?;
+    for (labels, samples) in [
+        (&x, late.as_slice()),
+        (&y, &late[..0]),
+        (&x, early.as_slice()),
+    ] {
+        pieces.push(Piece { labels, samples })?;
+    }
     let all = gather(rt.alloc(), pieces, 10)?;
     let [only] = all.as_slice() else {
         panic!(rt; "one series, and not {}", all.len());
@@ -82,6 +77,7 @@ fn the_last_sample_of_an_interval_stays(rt: HostRuntime) -> Result<(), Fail> {
 #[test]
 fn no_pieces_have_no_series(rt: HostRuntime) -> Result<(), Fail> {
     each_series_is_in_order(5, &[]);
+    series_have_what_is_seen(5, &[]);
     let all = gather(rt.alloc(), Vec::new(rt.alloc()), 5)?;
     assert!(rt; all.is_empty());
     Ok(())
