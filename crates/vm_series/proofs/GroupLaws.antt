@@ -1,13 +1,12 @@
 -- Pieces in label order: those at the front that share a label set make one series, and the others come behind it.
-use Rattle.std.proofs.Common.{◌≡◌, ℕ, suc, ◌+◌, ◌<◌, Bool, true, false, cond, List, [], ◌∷◌, ◌++◌, length, get_or, take, drop, map, filter, flat_map, append_assoc, refl, sym, ap, ap₂, ◌∙◌, subst, arith, add-one, IsPermutation, IsSortedBy, Ordering, Less, Equal, Greater, is_lt, is_le, true≢false, take-append-drop}
-use Rattle.std.specs.List.{AllByRecursion, dedup, prefix_len}
+use Rattle.std.proofs.Common.{◌≡◌, ℕ, suc, ◌+◌, ◌<◌, Bool, true, false, cond, List, [], ◌∷◌, ◌++◌, length, get_or, take, drop, map, flat_map, append_assoc, refl, sym, ap, ap₂, ◌∙◌, subst, arith, add-one, IsPermutation, IsSortedBy, Ordering, Less, Equal, Greater, is_lt, is_le, true≢false, take-append-drop}
+use Rattle.std.specs.List.{AllByRecursion, prefix_len}
 use Rattle.std.specs.Ordering.{ordering_reverse}
 use Rattle.std.proofs.lemmas.List.{map-append, drop-drop}
 use Rattle.std.proofs.lemmas.Grind.{flat_map-append}
-use Rattle.vm_base.specs.Sorted.{IsUp, sorted}
+use Rattle.vm_base.specs.Sorted.{sorted}
 use Rattle.vm_base.specs.Stamped.{is_in_order}
 use Rattle.vm_base.specs.Thinned.{thinned}
-use Rattle.vm_base.specs.declared.stamped.Stamped.{Stamped}
 use Rattle.vm_dedup.specs.Visible.{samples, stamped}
 use Rattle.vm_index.specs.Index.{is_set_below}
 use Rattle.vm_index.proofs.DistinctLaws.{below_upto, strictly}

@@ -3,7 +3,7 @@ use Rattle.std.proofs.Common.{◌≡◌, ℕ, ◌<◌, Bool, true, false, cond, 
 use Rattle.std.specs.List.{AllByRecursion, dedup, list_any}
 use Rattle.std.proofs.lemmas.List.{map-append}
 use Rattle.std.proofs.lemmas.List.Elements.{filter-append}
-use Rattle.vm_base.specs.Sorted.{IsUp, SameCounts, sorted}
+use Rattle.vm_base.specs.Sorted.{SameCounts, sorted}
 use Rattle.vm_base.specs.Stamped.{is_in_order}
 use Rattle.vm_base.specs.Thinned.{thinned}
 use Rattle.vm_base.specs.declared.stamped.Stamped.{Stamped}

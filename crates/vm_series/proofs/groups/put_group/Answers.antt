@@ -1,9 +1,8 @@
-use Rattle.std.proofs.Common.{◌≡◌, ◌<◌, ◌++◌, [], ◌∷◌, length, flat_map, vec_len, append-nil, sym, ap, ap₂, ◌∙◌, arith}
+use Rattle.std.proofs.Common.{◌≡◌, ◌<◌, ◌++◌, [], ◌∷◌, length, vec_len, append-nil, sym, ap, ap₂, ◌∙◌, arith}
 use Rattle.std.proofs.lemmas.Bool.Decides.{nat_tests}
 use Rattle.std.proofs.lemmas.Result.{IfOk-equal}
 use Rattle.vm_base.specs.Stamped.{is_in_order}
 use Rattle.vm_base.specs.Thinned.{thinned}
-use Rattle.vm_series.specs.Series.{rows_of_piece, series_of}
 use Rattle.vm_series.specs.Pieces.{samples_of}
 use Rattle.vm_series.proofs.Lists.{length-sorted}
 use Rattle.vm_series.proofs.GroupLaws.{series-none, series-one}

@@ -1,4 +1,4 @@
-use Rattle.std.proofs.Common.{length, take, ap, ◌∙◌, arith}
+use Rattle.std.proofs.Common.{ap, ◌∙◌, arith}
 use Rattle.std.proofs.Math.Seq.{take_all}
 use Rattle.vm_base.specs.Sorted.{sorted}
 use Rattle.vm_base.specs.Stamped.{is_in_order}
