@@ -1,0 +1,3 @@
+mod GroupLaws
+mod Lists
+pub mod SeriesLaws
