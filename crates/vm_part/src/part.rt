@@ -1,0 +1,100 @@
+//! A part in memory.
+
+ghost use Rattle.std.specs.Prelude.{◌≡◌, ◌<◌, ◌≤◌, length, map, flat_map, slice_get, nat_lt, Some, IfOk, IsTrue, ⊤};
+ghost use Rattle.std.specs.List.{AllByRecursion, list_any};
+ghost use Rattle.vm_part.specs.Part.{samples_of};
+ghost use Rattle.vm_part.specs.Said.{IsMadeOf, IsMergedOf, IsRow, Says};
+ghost use Rattle.vm_series.specs.Series.{series_of};
+
+use crate::Entry;
+use std::alloc::{AllocError, Global};
+use std::marker::Model;
+use std::rc::Rc;
+use vm_base::{List, Stamped};
+use vm_index::Index;
+use vm_labels::Row;
+
+/// An immutable part in memory, whole: the bytes of its file, and what they say of its series. Contracts see
+/// the bytes, the label sets, the entries and the number of rows.
+#[derive(Debug, Drop)]
+pub struct MemPart {
+    /// The bytes of the file.
+    bytes: Vec<u8>,
+    /// The label sets of the series.
+    index: Index,
+    /// What is said of each series.
+    entries: List<Entry>,
+    /// How many samples there are.
+    rows: u64,
+}
+
+impl Model for MemPart {
+    ghost use Rattle.std.specs.Prelude.{⊤};
+    ghost use Rattle.vm_part.specs.Said.{Kept, Says};
+
+    ghost Value = { Kept };
+
+    ghost view = { λ part. record { bytes = part.bytes.items; sets = part.index; entries = part.entries; rows = part.rows } };
+
+    ghost invariant = { λ part. Says (record { bytes = part.bytes.items; sets = part.index; entries = part.entries; rows = part.rows }) (λ all. ⊤) };
+}
+
+impl MemPart {
+    /// The part that holds the rows of a batch, which has some and keeps the limits of an import.
+    pub fn of_batch(_alloc: Global, _batch: &[Row]) -> Result<MemPart, AllocError>
+        requires some { 1 ≤ length _batch.now }
+        requires rows { AllByRecursion IsRow _batch.now }
+        ensures { IfOk result (λ part. IsMadeOf (series_of 0 _batch.now) part) }
+    {
+        Err(AllocError)
+    }
+
+    /// The part that holds what is seen of the rows of some parts, where of each interval of so many ms only
+    /// the last sample is; all are with an interval of 0 ms. Some part has a row.
+    pub fn of_parts(_alloc: Global, _parts: &[Rc<MemPart>], _interval: u64) -> Result<MemPart, AllocError>
+        requires { IsTrue (list_any (λ part. nat_lt 0 part.value.rows) _parts.now) }
+        ensures { IfOk result (λ part. IsMergedOf _interval (map (λ part. part.value) _parts.now) part) }
+    {
+        Err(AllocError)
+    }
+
+    /// The bytes of the part's file. A caller learns from it that they are a part with these label sets,
+    /// entries and rows.
+    pub fn image(&self) -> &[u8]
+        ensures bytes { result.now ≡ self.now.bytes }
+        ensures part { Says self.now (λ all. ⊤) }
+    {
+        self.bytes.as_slice()
+    }
+
+    /// The label index of its series.
+    pub fn index(&self) -> &Index
+        ensures { result.now ≡ self.now.sets }
+    {
+        &self.index
+    }
+
+    /// How many samples it holds.
+    pub fn rows(&self) -> u64
+        ensures { result ≡ self.now.rows }
+    {
+        self.rows
+    }
+
+    /// What is said of a series, by its ordinal.
+    pub fn entry(&self, ordinal: u64) -> Entry
+        requires { ordinal < length self.now.sets }
+        ensures { slice_get self.now.entries ordinal ≡ Some result }
+    {
+        let at = ordinal as usize;
+        self.entries.as_slice()[at]
+    }
+
+    /// The samples of a series, by its ordinal, in order.
+    pub fn samples(&self, _alloc: Global, ordinal: u64) -> Result<List<Stamped>, AllocError>
+        requires { ordinal < length self.now.sets }
+        ensures { IfOk result (λ samples. Says self.now (λ all. slice_get (map samples_of all) ordinal ≡ Some samples)) }
+    {
+        Err(AllocError)
+    }
+}
