@@ -1,3 +1,4 @@
 pub mod Broken
+pub mod Files
 pub mod Part
 pub mod Said

@@ -1,8 +1,11 @@
 //! Why there is no part.
 ghost use Rattle.std.specs.Prelude.{◌≡◌};
+ghost use Rattle.vm_part.specs.declared.fault.PartFault.TheVariants.{DiskFault, Memory as NoRoom};
 ghost use Rattle.vm_part.specs.declared.fault.ReadFault.TheVariants.{Memory as Unread};
 
 use std::alloc::AllocError;
+use thiserror::Error;
+use vm_outside::Failed;
 
 /// Why bytes give no part.
 #[derive(Clone, Copy, Debug, PartialEq, Eq)]
@@ -18,5 +21,35 @@ impl From<AllocError> for ReadFault {
 
     fn from(_e: AllocError) -> ReadFault {
         ReadFault::Memory
+    }
+}
+
+/// Why a file gives no part.
+#[derive(Clone, Copy, Debug, PartialEq, Eq, Error)]
+pub enum PartFault {
+    /// The disk failed, and counted that.
+    #[error("disk fault")]
+    DiskFault,
+    /// The bytes of the file are no part: this is the place of the first wrong field.
+    #[error("file {file} is damaged at byte {at}")]
+    Damaged { file: u64, at: u64 },
+    /// Memory ran out.
+    #[error("out of memory")]
+    Memory,
+}
+
+impl From<AllocError> for PartFault {
+    ghost from_gives = { λ _ e. e ≡ NoRoom };
+
+    fn from(_e: AllocError) -> PartFault {
+        PartFault::Memory
+    }
+}
+
+impl From<Failed> for PartFault {
+    ghost from_gives = { λ _ e. e ≡ DiskFault };
+
+    fn from(_e: Failed) -> PartFault {
+        PartFault::DiskFault
     }
 }

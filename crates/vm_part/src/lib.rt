@@ -12,9 +12,15 @@ mod build;
 mod entry;
 mod fault;
 mod footer;
+mod opening;
 mod part;
+mod reader;
 mod reading;
+mod writer;
 
 pub use entry::Entry;
-pub use fault::ReadFault;
+pub use fault::{PartFault, ReadFault};
+pub use opening::open_part;
 pub use part::MemPart;
+pub use reader::PartReader;
+pub use writer::{PartWriter, Writing};

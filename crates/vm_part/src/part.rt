@@ -51,7 +51,11 @@ impl MemPart {
 
     /// The part that holds what is seen of the rows of some parts, where of each interval of so many ms only
     /// the last sample is; all are with an interval of 0 ms. Some part has a row.
-    pub fn of_parts(_alloc: Global, _parts: &[Rc<MemPart>], _interval: u64) -> Result<MemPart, AllocError>
+    pub fn of_parts(
+        _alloc: Global,
+        _parts: &[Rc<MemPart>],
+        _interval: u64,
+    ) -> Result<MemPart, AllocError>
         requires { IsTrue (list_any (λ part. nat_lt 0 part.value.rows) _parts.now) }
         ensures { IfOk result (λ part. IsMergedOf _interval (map (λ part. part.value) _parts.now) part) }
     {
