@@ -12,6 +12,7 @@ mod build;
 mod entry;
 mod fault;
 mod footer;
+mod limits;
 mod opening;
 mod part;
 mod reader;
@@ -20,6 +21,7 @@ mod writer;
 
 pub use entry::Entry;
 pub use fault::{PartFault, ReadFault};
+pub use limits::are_within_limits;
 pub use opening::open_part;
 pub use part::MemPart;
 pub use reader::PartReader;
