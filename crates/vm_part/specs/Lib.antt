@@ -1,3 +1,4 @@
 pub mod Broken
+pub mod Making
 pub mod Part
 pub mod Said

@@ -12,6 +12,7 @@ mod build;
 mod entry;
 mod fault;
 mod footer;
+mod numbers;
 mod part;
 mod reading;
 
