@@ -1,1 +1,5 @@
+mod BuildLaws
+mod MergeLaws
 mod SaidLaws
+mod SampleLaws
+mod SeriesFacts

@@ -1,4 +1,6 @@
 pub mod Broken
 pub mod Making
+pub mod Merging
 pub mod Part
 pub mod Said
+pub mod Standing

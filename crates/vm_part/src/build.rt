@@ -1,12 +1,9 @@
 //! A part made of series.
 
-ghost use Rattle.std.specs.Prelude.{◌≡◌, ℕ, ◌≤◌, ◌++◌, length, map, sum, IfOk, OnOk};
+ghost use Rattle.std.specs.Prelude.{◌≡◌, ◌≤◌, length, map, sum_by, IfOk, OnOk};
 ghost use Rattle.std.specs.List.{AllByRecursion};
-ghost use Rattle.vm_block.specs.Cut.{AreOneBlock};
-ghost use Rattle.vm_block.specs.Written.{IsWritten};
-ghost use Rattle.vm_index.specs.Bytes.{postings_bytes, table_bytes};
-ghost use Rattle.vm_index.specs.Index.{postings_of};
-ghost use Rattle.vm_part.specs.Making.{ArePut, AreSamples, AreWritten, IsPut, IsWritable};
+ghost use Rattle.vm_index.specs.Index.{AreSets};
+ghost use Rattle.vm_part.specs.Making.{ArePut, AreSamples, IsPut, IsWritable, summed, with_sections};
 ghost use Rattle.vm_part.specs.Said.{CanBeStored, IsMadeOf};
 
 use crate::footer::Footer;
@@ -30,7 +27,8 @@ pub(crate) fn build(alloc: Global, series: List<Series>) -> Result<MemPart, Allo
 {
     let mut bytes = Vec::from_slice(alloc, FRONT_MARK)?;
     let entries = put_series(alloc, &mut bytes, series.as_slice())?;
-    let index = Index::build(alloc, labels_of(alloc, series)?)?;
+    let sets = labels_of(alloc, series)?;
+    let index = Index::build(alloc, sets)?;
     let rows = rows_of(entries.as_slice())?;
     put_sections(&mut bytes, entries.as_slice(), &index, rows)?;
     Ok(MemPart::keep(bytes, index, entries, rows))
@@ -47,7 +45,8 @@ fn put_series(
 {
     let mut entries = List::new(alloc);
     for one in series {
-        entries.push(put_blocks(alloc, out, one.samples.as_slice())?)?;
+        let entry = put_blocks(alloc, out, one.samples.as_slice())?;
+        entries.push(entry)?;
     }
     Ok(entries)
 }
@@ -63,18 +62,26 @@ fn put_blocks(alloc: Global, out: &mut Vec<u8>, samples: &[Stamped]) -> Result<E
         let bytes = encode_block(alloc, block.as_slice())?;
         out.extend_from_slice(bytes.as_slice())?;
     }
-    Ok(Entry {
+    Ok(entry_for(start, blocks.len() as u64, samples))
+}
+
+/// The entry of samples that stand from a place on in so many blocks.
+fn entry_for(start: u64, blocks: u64, samples: &[Stamped]) -> Entry
+    requires { 1 ≤ length samples.now }
+    ensures { result ≡ summed start blocks samples.now }
+{
+    Entry {
         start,
-        blocks: blocks.len() as u64,
+        blocks,
         rows: samples.len() as u64,
         first_time: samples[0].time,
         last_time: samples[samples.len() - 1].time,
-    })
+    }
 }
 
 /// The label sets of series.
 fn labels_of(alloc: Global, series: List<Series>) -> Result<List<Labels>, AllocError>
-    ensures { IfOk result (λ sets. sets ≡ map (λ s. s.labels) series) }
+    ensures { IfOk result (λ sets. sets ≡ map (λ one. one.labels) series) }
 {
     let mut sets = List::new(alloc);
     for one in series.into_vec() {
@@ -86,7 +93,7 @@ fn labels_of(alloc: Global, series: List<Series>) -> Result<List<Labels>, AllocE
 
 /// How many samples entries have together. Memory holds fewer than 2^64.
 fn rows_of(entries: &[Entry]) -> Result<u64, AllocError>
-    ensures { IfOk result (λ rows. rows ≡ sum (map (λ e. e.rows) entries.now)) }
+    ensures { IfOk result (λ rows. rows ≡ sum_by (λ entry. entry.rows) entries.now) }
 {
     let mut rows = 0u64;
     for entry in entries {
@@ -102,6 +109,9 @@ fn put_sections(
     index: &Index,
     rows: u64,
 ) -> Result<(), AllocError>
+    ensures bytes { OnOk result (out.new.items
+        ≡ with_sections out.old.items entries.now index.now (length index.now) rows) }
+    ensures sets { OnOk result (AreSets index.now) }
 {
     let entries_at = out.len() as u64;
     put_entries(out, entries)?;
@@ -115,7 +125,7 @@ fn put_sections(
             entries_at,
             table_at,
             postings_at,
-            series: entries.len() as u64,
+            series: index.sets().len() as u64,
             rows,
         },
     )

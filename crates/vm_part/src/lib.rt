@@ -12,9 +12,11 @@ mod build;
 mod entry;
 mod fault;
 mod footer;
+mod merging;
 mod numbers;
 mod part;
 mod reading;
+mod series;
 
 pub use entry::Entry;
 pub use fault::ReadFault;
