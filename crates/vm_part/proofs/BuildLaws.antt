@@ -1,6 +1,7 @@
 -- What is written of a part, step by step.
 use Rattle.std.proofs.Common.{◌≡◌, ℕ, suc, ◌+◌, ◌-◌, ◌^◌, ◌<◌, ◌≤◌, true, List, [], ◌∷◌, ◌++◌, length, get_or, take, map, flat_map, sum_by, Some, refl, sym, ap, ap₂, ◌∙◌, subst, arith, append_assoc, append-nil, length-append}
 use Rattle.std.specs.List.{AllByRecursion}
+use Rattle.std.specs.Prelude.{⊤}
 use Rattle.std.proofs.lemmas.List.{length-map, map-append, take_more}
 use Rattle.std.proofs.lemmas.List.Concat.{flat_map-append}
 use Rattle.std.proofs.lemmas.List.Elements.{All-from_recursion}
@@ -11,16 +12,18 @@ use Rattle.vm_base.specs.declared.stamped.Stamped.{Stamped}
 use Rattle.vm_block.specs.Block.{IsBlock}
 use Rattle.vm_block.specs.Cut.{AreOneBlock, IsCut, fit_one_block, joined}
 use Rattle.vm_block.specs.Written.{IsWritten}
-use Rattle.vm_index.specs.Index.{AreSets}
+use Rattle.vm_index.specs.Bytes.{postings_bytes, table_bytes}
+use Rattle.vm_index.specs.Index.{AreSets, postings_of}
 use Rattle.vm_index.proofs.ListLaws.{all_append}
 use Rattle.vm_labels.specs.declared.pair.Pair.{Pair}
 use Rattle.vm_series.specs.Series.{HasSample, IsByTime}
 use Rattle.vm_series.specs.declared.series.Series.{Series}
-use Rattle.vm_part.specs.Making.{AreSamples, ArePut, IsPut, IsWritable, summed, with_sections}
-use Rattle.vm_part.specs.Part.{Block, IsStored, Stored, block_bytes, blocks_bytes, entries, entries_from, entries_of, entry_of, first_of, front, front_mark, image, samples_in, samples_of, sets_of, time_of}
-use Rattle.vm_part.specs.Said.{AreBlocks, AreCutUp, CanBeStored, InTime, Says}
+use Rattle.vm_part.specs.Making.{AreSamples, ArePut, IsPut, IsWritable, footer_bytes, summed, with_sections}
+use Rattle.vm_part.specs.Part.{Block, IsStored, Stored, block_bytes, blocks_bytes, entries, entries_from, entries_of, entry_bytes, entry_of, first_of, front, front_mark, image, samples_in, samples_of, sets_of, time_of}
+use Rattle.vm_part.specs.Said.{AreBlocks, AreCutUp, CanBeStored, InTime, Kept, Says}
 use Rattle.vm_part.specs.Said.AreCutUp.{none, next}
 use Rattle.vm_part.specs.declared.entry.Entry.{Entry}
+use Rattle.vm_part.specs.declared.footer.Footer.{Footer}
 
 -- ---- what holds of each item
 
@@ -135,25 +138,27 @@ all_written samples blocks before after entry are cut so_far is =
     }
 
 -- the times of the first sample and of the last one
-pub first_time : (samples : List Stamped) (first : Stamped) → 1 ≤ length samples → first ≡ get_or samples 0 first
-    → first.time ≡ time_of (first_of samples)
-first_time [] first some is = absurd (omega arith)
-first_time (s ∷ samples) first some is = ap (λ (x : Stamped). x.time) is
+first_time : (samples : List Stamped) (d : Stamped) → 1 ≤ length samples → (get_or samples 0 d).time ≡ time_of (first_of samples)
+first_time [] d some = absurd (omega arith)
+first_time (s ∷ samples) d some = refl
 
-pub last_time : (samples : List Stamped) (last : Stamped) → 1 ≤ length samples → last ≡ get_or samples (length samples - 1) last
-    → last.time ≡ time_of (last_of samples)
-last_time [] last some is = absurd (omega arith)
-last_time (s ∷ []) last some is = ap (λ (x : Stamped). x.time) is
-last_time (s ∷ t ∷ samples) last some is =
-    last_time (t ∷ samples) last (omega arith) (is ∙ behind)
-  where
-    behind : get_or (s ∷ t ∷ samples) (length (s ∷ t ∷ samples) - 1) last ≡ get_or (t ∷ samples) (length (t ∷ samples) - 1) last
-    behind =
-        let more : length (s ∷ t ∷ samples) - 1 ≡ 1 + (length (t ∷ samples) - 1) = omega arith in
-        ap (λ n. get_or (s ∷ t ∷ samples) n last) (more ∙ one_more (length (t ∷ samples) - 1))
+last_time : (samples : List Stamped) (d : Stamped) → 1 ≤ length samples
+    → (get_or samples (length samples - 1) d).time ≡ time_of (last_of samples)
+last_time [] d some = absurd (omega arith)
+last_time (s ∷ []) d some =
+    let here : length (s ∷ []) - 1 ≡ 0 = omega arith in
+    ap (λ n. (get_or (s ∷ []) n d).time) here
+last_time (s ∷ t ∷ samples) d some =
+    let there : length (s ∷ t ∷ samples) - 1 ≡ suc (length (t ∷ samples) - 1) = omega arith in
+    ap (λ n. (get_or (s ∷ t ∷ samples) n d).time) there ∙ last_time (t ∷ samples) d (omega arith)
 
-    one_more : (n : ℕ) → 1 + n ≡ suc n
-    one_more n = omega arith
+abbrev pub entry_with : ℕ → ℕ → ℕ → ℕ → ℕ → Entry
+entry_with start blocks rows first last = record { start = start; blocks = blocks; rows = rows; first_time = first; last_time = last }
+
+pub entry_said : (start blocks : ℕ) (samples : List Stamped) (c d : Stamped) → 1 ≤ length samples
+    → entry_with start blocks (length samples) ((get_or samples 0 c).time) ((get_or samples (length samples - 1) d).time) ≡ summed start blocks samples
+entry_said start blocks samples c d some =
+    ap₂ (λ first last. entry_with start blocks (length samples) first last) (first_time samples c some) (last_time samples d some)
 
 -- ---- series
 
@@ -241,6 +246,32 @@ spelled_so all written bytes said sets many rows f e s m r is =
         ≡ with_sections (front all) (entries_of all) (sets_of all) (length all) (length (flat_map samples_of all)) =
     λ i. with_sections (f i) (e i) (s i) (m i) (r i) in
     is ∙ whole
+
+-- the sections as they are written one by one
+abbrev pub footer_with : ℕ → ℕ → ℕ → ℕ → ℕ → Footer
+footer_with entries_at table_at postings_at series rows =
+    record { entries_at = entries_at; table_at = table_at; postings_at = postings_at; series = series; rows = rows }
+
+pub sections_put : (before one two three after : List ℕ) (said : List Entry) (sets : List (List Pair)) (m n p many rows : ℕ)
+    → one ≡ before ++ flat_map entry_bytes said → two ≡ one ++ table_bytes sets → three ≡ two ++ postings_bytes (postings_of sets)
+    → m ≡ length before → n ≡ length one → p ≡ length two → many ≡ length sets
+    → after ≡ three ++ footer_bytes (footer_with m n p many rows) → after ≡ with_sections before said sets (length sets) rows
+sections_put before one two three after said sets m n p many rows first second third at table_at postings_at count is =
+    let es : List ℕ = flat_map entry_bytes said in
+    let ts : List ℕ = table_bytes sets in
+    let ps : List ℕ = postings_bytes (postings_of sets) in
+    let all : three ≡ before ++ es ++ ts ++ ps = third ∙ ap (λ bs. bs ++ ps) (second ∙ ap (λ bs. bs ++ ts) first) in
+    let long : length one ≡ length before + length es = ap length first ∙ length-append before es in
+    let longer : length two ≡ length before + length es + length ts =
+    ap length second ∙ length-append one ts ∙ ap (λ k. k + length ts) long in
+    let there : n ≡ length before + length es = table_at ∙ long in
+    let beyond : p ≡ length before + length es + length ts = postings_at ∙ longer in
+    let whole : three ++ footer_bytes (footer_with m n p many rows) ≡ with_sections before said sets (length sets) rows =
+    λ i. all i ++ footer_bytes (footer_with (at i) (there i) (beyond i) (count i) rows) in
+    is ∙ whole
+
+pub weaker : (part : Kept) (P : List Stored → Type 0) → Says part P → Says part (λ all. ⊤)
+weaker part P says = record { all = says.all; bytes = says.bytes; sets = says.sets; entries = says.entries; rows = says.rows; that = tt }
 
 pub made : (series : List Series) (before written bytes : List ℕ) (said : List Entry) (sets : List (List Pair)) (rows : ℕ)
     → CanBeStored series → before ≡ front_mark → ArePut series before written said → sets ≡ map (λ (s : Series). s.labels) series

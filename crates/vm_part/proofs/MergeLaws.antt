@@ -1,5 +1,5 @@
 -- The rows of parts, and the pieces that are made of them.
-use Rattle.std.proofs.Common.{◌≡◌, ℕ, zero, suc, ◌+◌, ◌-◌, ◌^◌, ◌<◌, ◌≤◌, ◌&&◌, ◌||◌, nat_lt, int_le, int_lt, ℤ, pos, Bool, true, false, List, [], ◌∷◌, ◌++◌, length, get_or, take, drop, map, flat_map, slice_get, Option, Some, None, refl, sym, ap, ap₂, ◌∙◌, subst, arith, append_assoc, append-nil, length-append}
+use Rattle.std.proofs.Common.{◌≡◌, ℕ, zero, suc, ◌+◌, ◌-◌, ◌^◌, ◌<◌, ◌≤◌, ◌&&◌, ◌||◌, nat_lt, int_le, int_lt, ℤ, pos, Bool, true, false, List, [], ◌∷◌, ◌++◌, length, get_or, take, drop, map, flat_map, slice_get, Option, Some, None, refl, sym, ap, ap₂, ◌∙◌, subst, arith, append_assoc, append-nil, length-append, Global}
 use Rattle.std.specs.List.{AllByRecursion, AllZip, list_any}
 use Rattle.std.specs.Prelude.{⊤}
 use Rattle.std.proofs.lemmas.Bool.{and_parts}
@@ -22,6 +22,8 @@ use Rattle.vm_part.specs.Merging.{AreRead, SaysAll, rows_beside}
 use Rattle.vm_part.specs.Part.{AreStored, Block, IsPart, IsStored, Stored, entries_of, samples_in, samples_of, sets_of}
 use Rattle.vm_part.specs.Said.{Hold, IsRow, Kept, Says, rows_in, rows_of}
 use Rattle.vm_part.specs.Said.Hold.{none, next}
+use Rattle.std.specs.declared.rc.Rc.{Rc}
+use Rattle.vm_part.specs.declared.part.MemPart.{MemPart}
 use Rattle.vm_part.proofs.SampleLaws.{taken}
 
 -- ---- rows of a part
@@ -85,14 +87,15 @@ pub some_row : {X : Type 0} (f : X → Kept) (xs : List X) (alls : List (List St
     → list_any (λ x. nat_lt 0 (f x).rows) xs ≡ true → 1 ≤ length (flat_map rows_in alls)
 some_row f [] alls said any = absurd (cc)
 some_row f (x ∷ xs) [] said any = absurd said
-some_row f (x ∷ xs) (all ∷ alls) said any = go (nat_lt 0 (f x).rows) refl any
+some_row f (x ∷ xs) (all ∷ alls) said any = go (nat_lt 0 (f x).rows) refl any (λ others. some_row f xs alls said.1 others)
   where
-    go : (b : Bool) → nat_lt 0 (f x).rows ≡ b → (b || list_any (λ y. nat_lt 0 (f y).rows) xs) ≡ true → 1 ≤ length (rows_in all ++ flat_map rows_in alls)
-    go true here either =
+    go : (b : Bool) → nat_lt 0 (f x).rows ≡ b → (b || list_any (λ y. nat_lt 0 (f y).rows) xs) ≡ true
+        → (list_any (λ y. nat_lt 0 (f y).rows) xs ≡ true → 1 ≤ length (flat_map rows_in alls))
+        → 1 ≤ length (rows_in all ++ flat_map rows_in alls)
+    go true here either more =
         let some : 0 < (f x).rows = grind (arith, nat_tests) in
         omega (arith, length-append (rows_in all) (flat_map rows_in alls), rows-samples all, said.0.rows, some)
-    go false here either =
-        omega (arith, length-append (rows_in all) (flat_map rows_in alls), some_row f xs alls said.1 either)
+    go false here either more = omega (arith, length-append (rows_in all) (flat_map rows_in alls), more either)
 
 -- ---- what is read of parts
 
@@ -128,27 +131,31 @@ pub record PartAt (part : Kept) (samples : List (List Stamped)) (alls : List (Li
   pub says : SaysAll part all
   pub read : samples ≡ map samples_of all
 
-part_there : {X : Type 0} (f : X → Kept) (xs : List X) (alls : List (List Stored)) (i : ℕ) (x : X) (samples : List (List Stamped)) → i < length xs
-    → AllZip SaysAll (map f xs) alls → samples ≡ get_or (map (map samples_of) alls) i samples → PartAt (f (get_or xs i x)) samples alls i
-part_there f [] alls i x samples within said read = absurd (omega arith)
-part_there f (u ∷ xs) [] i x samples within said read = absurd said
-part_there f (u ∷ xs) (all ∷ alls) zero x samples within said read = record { all = all; is = refl; says = said.0; read = read }
-part_there f (u ∷ xs) (all ∷ alls) (suc i) x samples within said read =
-    let there = part_there f xs alls i x samples (omega arith) said.1 read in
+part_there : {X : Type 0} (f : X → Kept) (xs : List X) (alls : List (List Stored)) (i : ℕ) (x : X) (samples e : List (List Stamped)) → i < length xs
+    → AllZip SaysAll (map f xs) alls → samples ≡ get_or (map (map samples_of) alls) i e → PartAt (f (get_or xs i x)) samples alls i
+part_there f [] alls i x samples e within said read = absurd (omega arith)
+part_there f (u ∷ xs) [] i x samples e within said read = absurd said
+part_there f (u ∷ xs) (all ∷ alls) zero x samples e within said read = record { all = all; is = refl; says = said.0; read = read }
+part_there f (u ∷ xs) (all ∷ alls) (suc i) x samples e within said read =
+    let there : PartAt (f (get_or xs i x)) samples alls i = part_there f xs alls i x samples e (omega arith) said.1 read in
     record { all = there.all; is = there.is; says = there.says; read = there.read }
 
 pub part_at : {X : Type 0} (f : X → Kept) (xs : List X) (read : List (List (List Stamped))) (alls : List (List Stored)) (i : ℕ) (x : X)
-    (samples : List (List Stamped)) → i < length xs → x ≡ get_or xs i x → samples ≡ get_or read i samples → AllZip SaysAll (map f xs) alls
-    → read ≡ map (map samples_of) alls → PartAt (f x) samples alls i
-part_at f xs read alls i x samples within is its said same =
-    subst (λ y. PartAt (f y) samples alls i) (sym is)
-    (part_there f xs alls i x samples within said (its ∙ ap (λ rs. get_or rs i samples) same))
+    (e : List (List Stamped)) (part : Kept) (samples : List (List Stamped)) → i < length xs → part ≡ f (get_or xs i x) → samples ≡ get_or read i e
+    → AllZip SaysAll (map f xs) alls → read ≡ map (map samples_of) alls → PartAt part samples alls i
+part_at f xs read alls i x e part samples within is its said same =
+    subst (λ k. PartAt k samples alls i) (sym is)
+    (part_there f xs alls i x samples e within said (its ∙ ap (λ rs. get_or rs i e) same))
 
 pub many_read : {X : Type 0} (f : X → Kept) (xs : List X) (alls : List (List Stored)) → AllZip SaysAll (map f xs) alls → length alls ≡ length xs
 many_read f [] [] said = refl
 many_read f [] (all ∷ alls) said = absurd said
 many_read f (x ∷ xs) [] said = absurd said
 many_read f (x ∷ xs) (all ∷ alls) said = ap suc (many_read f xs alls said.1)
+
+pub as_many_read : {X : Type 0} (f : X → Kept) (xs : List X) (read : List (List (List Stamped))) → AreRead (map f xs) read → length read ≡ length xs
+as_many_read f xs read are =
+    ap length are.samples ∙ length-map are.alls (map samples_of) ∙ many_read f xs are.alls are.said
 
 -- ---- pieces
 
@@ -157,9 +164,9 @@ rows_beside-all [] = refl
 rows_beside-all (s ∷ all) = ap (λ rows. rows_of s ++ rows) (rows_beside-all all)
 
 -- as many label sets as lists of samples
-pub as_many : (part : Kept) (samples sets : List (List Stamped)) (alls : List (List Stored)) (i : ℕ) → PartAt part samples alls i
+pub as_many : (part : Kept) (samples : List (List Stamped)) (alls : List (List Stored)) (i : ℕ) → PartAt part samples alls i
     → length part.sets ≡ length samples
-as_many part samples sets alls i at =
+as_many part samples alls i at =
     ap length at.says.sets ∙ length-map at.all (λ (s : Stored). s.labels) ∙ sym (ap length at.read ∙ length-map at.all samples_of)
 
 -- the pieces of one part more
@@ -187,16 +194,16 @@ beside_more (u ∷ sets) (v ∷ samples) (suc i) set some within inside =
 
 -- one piece more
 pub one_piece : (rows : List Row) (before after : List Piece) (piece : Piece) (sets : List (List Pair)) (samples : List (List Stamped)) (i : ℕ)
-    → i < length sets → length sets ≡ length samples → piece.labels.now ≡ get_or sets i piece.labels.now
-    → piece.samples.now ≡ get_or samples i piece.samples.now → after ≡ before ++ piece ∷ []
+    (d : List Pair) (e : List Stamped) → i < length sets → length sets ≡ length samples → piece.labels.now ≡ get_or sets i d
+    → piece.samples.now ≡ get_or samples i e → after ≡ before ++ piece ∷ []
     → flat_map rows_of_piece before ≡ rows ++ rows_beside (take i sets) (take i samples)
     → flat_map rows_of_piece after ≡ rows ++ rows_beside (take (i + 1) sets) (take (i + 1) samples)
-one_piece rows before after piece sets samples i within many set_is samples_are put so_far =
+one_piece rows before after piece sets samples i d e within many set_is samples_are put so_far =
     ap (flat_map rows_of_piece) put ∙ flat_map-append rows_of_piece before (piece ∷ [])
     ∙ ap₂ (λ xs ys. xs ++ ys) so_far
-    (append-nil (rows_of_piece piece) ∙ ap₂ (λ (set : List Pair) some. map (row_of set) some) set_is samples_are)
-    ∙ append_assoc rows (rows_beside (take i sets) (take i samples)) (map (row_of (get_or sets i piece.labels.now)) (get_or samples i piece.samples.now))
-    ∙ ap (λ more. rows ++ more) (sym (beside_more sets samples i piece.labels.now piece.samples.now within (omega (arith, many, within))))
+    (append-nil (rows_of_piece piece) ∙ ap₂ (λ (set : List Pair) (some : List Stamped). map (row_of set) some) set_is samples_are)
+    ∙ append_assoc rows (rows_beside (take i sets) (take i samples)) (map (row_of (get_or sets i d)) (get_or samples i e))
+    ∙ ap (λ more. rows ++ more) (sym (beside_more sets samples i d e within (omega (arith, many, within))))
 
 -- ---- rows of a batch
 
@@ -208,14 +215,17 @@ one_of (r ∷ batch) (suc i) row within = one_of batch i row (omega arith)
 
 -- the piece of one row more
 pub one_row : (before after : List Piece) (piece : Piece) (batch : List Row) (samples : List Stamped) (i len : ℕ) (row : Row)
-    → i < length batch → row ≡ get_or batch i row → samples ≡ map stamped batch → len ≡ 1
-    → piece.labels.now ≡ row.labels → piece.samples.now ≡ take len (drop i samples) → after ≡ before ++ piece ∷ []
+    → i < length batch → samples ≡ map stamped batch → len ≡ 1
+    → piece.labels.now ≡ (get_or batch i row).labels → piece.samples.now ≡ take len (drop i samples) → after ≡ before ++ piece ∷ []
     → flat_map rows_of_piece before ≡ take i batch → flat_map rows_of_piece after ≡ take (i + 1) batch
-one_row before after piece batch samples i len row within is same one labels some put so_far =
+one_row before after piece batch samples i len row within same one labels some put so_far =
     ap (flat_map rows_of_piece) put ∙ flat_map-append rows_of_piece before (piece ∷ [])
     ∙ ap₂ (λ xs ys. xs ++ ys) so_far
     (append-nil (rows_of_piece piece)
-    ∙ ap₂ (λ (set : List Pair) xs. map (row_of set) xs) (labels ∙ ap (λ (r : Row). r.labels) is)
-    (some ∙ ap₂ (λ n xs. take n (drop i xs)) one same)
+    ∙ ap₂ (λ (set : List Pair) (xs : List Stamped). map (row_of set) xs) labels (some ∙ ap₂ (λ n (xs : List Stamped). take n (drop i xs)) one same)
     ∙ one_of batch i row within)
     ∙ sym (take_more batch i row within)
+
+-- what a part in memory keeps
+abbrev pub kept : Rc MemPart Global → Kept
+kept part = part.value

@@ -83,13 +83,13 @@ pub record RestOf (blocks : List Block) (samples : List Stamped) (rest : List �
   pub begun : BeginsWithAll rest due
   pub whole : samples ++ samples_in due ≡ samples_in blocks
 
-pub all_due : (bytes rest : List ℕ) (entry : Entry) (blocks : List Block) → StandAt bytes entry blocks → rest ≡ drop entry.start bytes
-    → RestOf blocks [] rest (entry.blocks - 0)
-all_due bytes rest entry blocks stand is = record {
+pub all_due : (bytes rest : List ℕ) (entry : Entry) (blocks : List Block) (samples : List Stamped) → StandAt bytes entry blocks
+    → rest ≡ drop entry.start bytes → samples ≡ [] → RestOf blocks samples rest (entry.blocks - 0)
+all_due bytes rest entry blocks samples stand is none_read = record {
   due = blocks;
   many = omega (arith, stand.many);
   begun = subst (λ bs. BeginsWithAll bs blocks) (sym is) stand.begun;
-  whole = refl;
+  whole = ap (λ xs. xs ++ samples_in blocks) none_read;
 }
 
 first_of_all : (rest : List ℕ) (b : Block) (due : List Block) (begun : BeginsWithAll rest (b ∷ due))

@@ -16,6 +16,14 @@ use vm_base::{List, Stamped};
 use vm_labels::{Labels, Row};
 use vm_series::Piece;
 
+/// Some samples of a label set.
+fn piece_of<'a>(labels: &'a Labels, samples: &'a [Stamped]) -> Piece<'a>
+    ensures labels { result.labels.now ≡ labels.now }
+    ensures samples { result.samples.now ≡ samples.now }
+{
+    Piece { labels, samples }
+}
+
 // ---- a batch
 
 /// The samples of rows.
@@ -36,10 +44,8 @@ pub(crate) fn pieces_of_rows<'a>(
 {
     let mut pieces = Vec::new(alloc);
     for at in 0..batch.len() {
-        pieces.push(Piece {
-            labels: &batch[at].labels,
-            samples: &samples[at..at + 1],
-        })?;
+        let piece = piece_of(&batch[at].labels, &samples[at..at + 1]);
+        pieces.push(piece)?;
     }
     Ok(pieces)
 }
@@ -69,8 +75,8 @@ fn read_part(alloc: Global, part: &MemPart) -> Result<List<List<Stamped>>, Alloc
     let count = part.index().sets().len() as u64;
     let mut read = List::new(alloc);
     for ordinal in 0..count {
-        let entry = part.entry(ordinal);
-        let samples = read_blocks(alloc, bytes, &entry)?;
+        let said = part.entry(ordinal);
+        let samples = read_blocks(alloc, bytes, &said)?;
         read.push(samples)?;
     }
     Ok(read)
@@ -104,10 +110,8 @@ fn put_pieces<'a>(
         ≡ flat_map rows_of_piece pieces.old.items ++ rows_beside sets.now samples.now) }
 {
     for at in 0..sets.len() {
-        pieces.push(Piece {
-            labels: &sets[at],
-            samples: samples[at].as_slice(),
-        })?;
+        let piece = piece_of(&sets[at], samples[at].as_slice());
+        pieces.push(piece)?;
     }
     Ok(())
 }

@@ -123,7 +123,7 @@ impl MemPart {
         ensures { IfOk result (λ samples. Says self.now (λ all. slice_get (map samples_of all) ordinal ≡ Some samples)) }
     {
         let bytes = self.image();
-        let entry = self.entry(ordinal);
-        read_blocks(alloc, bytes, &entry)
+        let said = self.entry(ordinal);
+        read_blocks(alloc, bytes, &said)
     }
 }

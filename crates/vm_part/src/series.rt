@@ -25,8 +25,9 @@ pub(crate) fn read_blocks(
     let (_, behind) = bytes.split_at(entry.start as usize);
     let mut rest = behind;
     let mut samples = Vec::new(alloc);
-    'blocks: for _block in 0..entry.blocks {
-        rest = put_block(alloc, &mut samples, rest)?;
+    'reading: for _block in 0..entry.blocks {
+        let more = put_block(alloc, &mut samples, rest)?;
+        rest = more;
     }
     Ok(List::from_vec(samples))
 }

@@ -4,7 +4,7 @@ use Rattle.vm_part.specs.Standing.{StandAt}
 use Rattle.vm_part.proofs.SampleLaws.{RestOf}
 use Rattle.vm_part.proofs.series.read_blocks.Given as goal
 
-abbrev pub invariant-blocks : goal.invariant-blocks
-invariant-blocks l =
+abbrev pub invariant-reading : goal.invariant-reading
+invariant-reading l =
     (blocks : List Block) → StandAt l.fn.bytes l.fn.entry blocks
     → RestOf blocks l.samples.items l.rest (l.fn.entry.blocks - l._block)
