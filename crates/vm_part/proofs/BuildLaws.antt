@@ -243,7 +243,7 @@ spelled_so : (all : List Stored) (written bytes : List ℕ) (said : List Entry) 
 unfolding image
 spelled_so all written bytes said sets many rows f e s m r is =
     let whole : with_sections written said sets many rows
-        ≡ with_sections (front all) (entries_of all) (sets_of all) (length all) (length (flat_map samples_of all)) =
+    ≡ with_sections (front all) (entries_of all) (sets_of all) (length all) (length (flat_map samples_of all)) =
     λ i. with_sections (f i) (e i) (s i) (m i) (r i) in
     is ∙ whole
 

@@ -17,6 +17,8 @@ mod numbers;
 mod part;
 mod reading;
 mod series;
+#[cfg(test)]
+mod tests;
 
 pub use entry::Entry;
 pub use fault::ReadFault;

@@ -66,11 +66,7 @@ fn header_at(front: &[u8]) -> BlockHeader
 }
 
 /// The samples of a block with this header and this body.
-fn read_body(
-    alloc: Global,
-    header: &BlockHeader,
-    body: &[u8],
-) -> Result<List<Stamped>, AllocError>
+fn read_body(alloc: Global, header: &BlockHeader, body: &[u8]) -> Result<List<Stamped>, AllocError>
     requires { (samples : List Stamped) × IsBlock header.now body.now samples }
     ensures { IfOk result (IsBlock header.now body.now) }
 {

@@ -29,6 +29,7 @@ returns c = λ b more begins.
     let at = behind c.args.bytes.now c.split_at.result.0.now c.split_at.result.1.now (h.times_len + h.values_len) h b more begins
     c.split_at.ensures.front c.split_at.ensures.back c.header_at-header.ensures.header c.header_at-header.ensures.bytes refl in
     let read : c.in_ok-block.block ≡ b.samples =
-    samples_same h c.split_at-2.result.0.now b c.in_ok-block.block at.same (c.split_at-2.ensures.front ∙ at.body) begins.block c.in_ok-block.ensures in
-    (c.in_ok-extend_from_slice.ensures.items ∙ ap (λ xs. c.args.samples.now.items ++ xs) (c.as_slice.ensures ∙ read),
-    c.split_at-2.ensures.back ∙ at.more_is)
+    samples_same h c.split_at-2.result.0.now b c.in_ok-block.block at.same (c.split_at-2.ensures.front ∙ at.body) begins.block c.in_ok-block.ensures in (
+      c.in_ok-extend_from_slice.ensures.items ∙ ap (λ xs. c.args.samples.now.items ++ xs) (c.as_slice.ensures ∙ read),
+      c.split_at-2.ensures.back ∙ at.more_is,
+    )
