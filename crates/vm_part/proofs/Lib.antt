@@ -1,2 +1,6 @@
 mod FileLaws
+mod BuildLaws
+mod MergeLaws
 mod SaidLaws
+mod SampleLaws
+mod SeriesFacts

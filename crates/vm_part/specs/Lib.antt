@@ -1,4 +1,7 @@
 pub mod Broken
 pub mod Files
+pub mod Making
+pub mod Merging
 pub mod Part
 pub mod Said
+pub mod Standing

@@ -14,10 +14,15 @@ mod fault;
 mod footer;
 mod limits;
 mod opening;
+mod merging;
+mod numbers;
 mod part;
 mod reader;
 mod reading;
 mod writer;
+mod series;
+#[cfg(test)]
+mod tests;
 
 pub use entry::Entry;
 pub use fault::{PartFault, ReadFault};

@@ -7,12 +7,16 @@ ghost use Rattle.vm_part.specs.Said.{IsMadeOf, IsMergedOf, IsRow, Says};
 ghost use Rattle.vm_series.specs.Series.{series_of};
 
 use crate::Entry;
+use crate::build::build;
+use crate::merging::{pieces_of_parts, pieces_of_rows, read_parts, stamps};
+use crate::series::read_blocks;
 use std::alloc::{AllocError, Global};
 use std::marker::Model;
 use std::rc::Rc;
 use vm_base::{List, Stamped};
 use vm_index::Index;
 use vm_labels::Row;
+use vm_series::gather;
 
 /// An immutable part in memory, whole: the bytes of its file, and what they say of its series. Contracts see
 /// the bytes, the label sets, the entries and the number of rows.
@@ -40,26 +44,45 @@ impl Model for MemPart {
 }
 
 impl MemPart {
-    /// The part that holds the rows of a batch, which has some and keeps the limits of an import.
-    pub fn of_batch(_alloc: Global, _batch: &[Row]) -> Result<MemPart, AllocError>
-        requires some { 1 ≤ length _batch.now }
-        requires rows { AllByRecursion IsRow _batch.now }
-        ensures { IfOk result (λ part. IsMadeOf (series_of 0 _batch.now) part) }
+    /// What was read of the bytes of a part, or written of one.
+    pub(crate) fn keep(bytes: Vec<u8>, index: Index, entries: List<Entry>, rows: u64) -> MemPart
+        requires { Says (record { bytes = bytes.items; sets = index; entries = entries; rows = rows }) (λ all. ⊤) }
+        ensures { result ≡ record { bytes = bytes.items; sets = index; entries = entries; rows = rows } }
     {
-        Err(AllocError)
+        MemPart {
+            bytes,
+            index,
+            entries,
+            rows,
+        }
+    }
+
+    /// The part that holds the rows of a batch, which has some and keeps the limits of an import.
+    pub fn of_batch(alloc: Global, batch: &[Row]) -> Result<MemPart, AllocError>
+        requires some { 1 ≤ length batch.now }
+        requires rows { AllByRecursion IsRow batch.now }
+        ensures { IfOk result (λ part. IsMadeOf (series_of 0 batch.now) part) }
+    {
+        let samples = stamps(alloc, batch)?;
+        let pieces = pieces_of_rows(alloc, batch, &samples)?;
+        let series = gather(alloc, pieces, 0)?;
+        build(alloc, series)
     }
 
     /// The part that holds what is seen of the rows of some parts, where of each interval of so many ms only
     /// the last sample is; all are with an interval of 0 ms. Some part has a row.
     pub fn of_parts(
-        _alloc: Global,
-        _parts: &[Rc<MemPart>],
-        _interval: u64,
+        alloc: Global,
+        parts: &[Rc<MemPart>],
+        interval: u64,
     ) -> Result<MemPart, AllocError>
-        requires { IsTrue (list_any (λ part. nat_lt 0 part.value.rows) _parts.now) }
-        ensures { IfOk result (λ part. IsMergedOf _interval (map (λ part. part.value) _parts.now) part) }
+        requires { IsTrue (list_any (λ part. nat_lt 0 part.value.rows) parts.now) }
+        ensures { IfOk result (λ part. IsMergedOf interval (map (λ part. part.value) parts.now) part) }
     {
-        Err(AllocError)
+        let read = read_parts(alloc, parts)?;
+        let pieces = pieces_of_parts(alloc, parts, read.as_slice())?;
+        let series = gather(alloc, pieces, interval)?;
+        build(alloc, series)
     }
 
     /// The bytes of the part's file. A caller learns from it that they are a part with these label sets,
@@ -95,10 +118,12 @@ impl MemPart {
     }
 
     /// The samples of a series, by its ordinal, in order.
-    pub fn samples(&self, _alloc: Global, ordinal: u64) -> Result<List<Stamped>, AllocError>
+    pub fn samples(&self, alloc: Global, ordinal: u64) -> Result<List<Stamped>, AllocError>
         requires { ordinal < length self.now.sets }
         ensures { IfOk result (λ samples. Says self.now (λ all. slice_get (map samples_of all) ordinal ≡ Some samples)) }
     {
-        Err(AllocError)
+        let bytes = self.image();
+        let said = self.entry(ordinal);
+        read_blocks(alloc, bytes, &said)
     }
 }
