@@ -1,3 +1,4 @@
 pub mod Broken
 pub mod Part
+pub mod Reading
 pub mod Said

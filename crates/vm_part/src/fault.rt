@@ -1,8 +1,9 @@
 //! Why there is no part.
 ghost use Rattle.std.specs.Prelude.{◌≡◌};
-ghost use Rattle.vm_part.specs.declared.fault.ReadFault.TheVariants.{Memory as Unread};
+ghost use Rattle.vm_part.specs.declared.fault.ReadFault.TheVariants.{Broken as BrokenAt, Memory as Unread};
 
 use std::alloc::AllocError;
+use vm_base::Broken;
 
 /// Why bytes give no part.
 #[derive(Clone, Copy, Debug, PartialEq, Eq)]
@@ -18,5 +19,13 @@ impl From<AllocError> for ReadFault {
 
     fn from(_e: AllocError) -> ReadFault {
         ReadFault::Memory
+    }
+}
+
+impl From<Broken> for ReadFault {
+    ghost from_gives = { λ broken e. e ≡ BrokenAt broken.at };
+
+    fn from(e: Broken) -> ReadFault {
+        ReadFault::Broken { at: e.at }
     }
 }

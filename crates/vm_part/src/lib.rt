@@ -9,8 +9,10 @@
 
 mod blocks;
 mod build;
+mod entries;
 mod entry;
 mod fault;
+mod fields;
 mod footer;
 mod part;
 mod reading;

@@ -40,6 +40,19 @@ impl Model for MemPart {
 }
 
 impl MemPart {
+    /// What was read of the bytes of a part, or written of one.
+    pub(crate) fn keep(bytes: Vec<u8>, index: Index, entries: List<Entry>, rows: u64) -> MemPart
+        requires { Says (record { bytes = bytes.items; sets = index; entries = entries; rows = rows }) (λ all. ⊤) }
+        ensures { result ≡ record { bytes = bytes.items; sets = index; entries = entries; rows = rows } }
+    {
+        MemPart {
+            bytes,
+            index,
+            entries,
+            rows,
+        }
+    }
+
     /// The part that holds the rows of a batch, which has some and keeps the limits of an import.
     pub fn of_batch(_alloc: Global, _batch: &[Row]) -> Result<MemPart, AllocError>
         requires some { 1 ≤ length _batch.now }

@@ -1,21 +1,63 @@
 //! A part read from bytes.
 
-ghost use Rattle.std.specs.Prelude.{◌≡◌, ◌≤◌, length, IfOk, IfErr};
-ghost use Rattle.vm_part.specs.Broken.{IsReadFault};
+ghost use Rattle.std.specs.Prelude.{◌≡◌, ◌-◌, ◌≤◌, length, IfOk, IfErr};
+ghost use Rattle.vm_index.specs.Bytes.{postings_bytes};
+ghost use Rattle.vm_index.specs.Index.{postings_of};
+ghost use Rattle.vm_index.specs.Reading.{IsTable};
+ghost use Rattle.vm_part.specs.Broken.{IsReadFault, postings_in, table_in};
+ghost use Rattle.vm_part.specs.Reading.{AreSections, IsIndexFault};
 
+use crate::blocks::check_blocks;
+use crate::entries::read_entries;
+use crate::footer::{Footer, read_footer};
 use crate::{MemPart, ReadFault};
 use std::alloc::Global;
+use vm_index::{Index, IndexFault};
+
+/// How many bytes the footer takes.
+const FOOTER_LEN: u64 = 48;
+
+/// How many bytes a part has at least: its front and its footer.
+const MIN_LEN: u64 = 56;
 
 impl MemPart {
     /// The part that these bytes are, which are to be so many: where a file is shorter, its bytes are cut off.
     ///
     /// `Broken` names the place of the first field that is cut off or breaks its rule, in the order in which
     /// a part is read: its front, the footer, the entries, the label table, the postings and the blocks.
-    pub fn read(_alloc: Global, _len: u64, _bytes: Vec<u8>) -> Result<MemPart, ReadFault>
-        requires { length _bytes.items ≤ _len }
-        ensures found { IfOk result (λ part. (part.bytes ≡ _bytes.items) × (length _bytes.items ≡ _len)) }
-        ensures broken { IfErr result (λ fault. IsReadFault _len _bytes.items fault) }
+    pub fn read(alloc: Global, len: u64, bytes: Vec<u8>) -> Result<MemPart, ReadFault>
+        requires { length bytes.items ≤ len }
+        ensures found { IfOk result (λ part. (part.bytes ≡ bytes.items) × (length bytes.items ≡ len)) }
+        ensures broken { IfErr result (λ fault. IsReadFault len bytes.items fault) }
     {
-        Err(ReadFault::Memory)
+        if len < MIN_LEN {
+            return Err(ReadFault::Broken { at: 0 });
+        }
+        let footer = read_footer(len, bytes.as_slice())?;
+        let entries = read_entries(alloc, bytes.as_slice(), &footer)?;
+        let index = read_index(alloc, len - FOOTER_LEN, bytes.as_slice(), &footer)?;
+        check_blocks(alloc, bytes.as_slice(), footer.entries_at, entries.as_slice())?;
+        Ok(MemPart::keep(bytes, index, entries, footer.rows))
+    }
+}
+
+/// The label index of a file whose footer stands at a place.
+fn read_index(alloc: Global, at: u64, bytes: &[u8], footer: &Footer) -> Result<Index, ReadFault>
+    requires { AreSections at bytes.now footer.now }
+    ensures table { IfOk result (λ sets. IsTable footer.now.series (table_in footer.now bytes.now) sets) }
+    ensures postings { IfOk result (λ sets. postings_in at footer.now bytes.now ≡ postings_bytes (postings_of sets)) }
+    ensures broken { IfErr result (λ fault. IsIndexFault at footer.now bytes.now fault) }
+{
+    let table = &bytes[footer.table_at as usize..footer.postings_at as usize];
+    let postings = &bytes[footer.postings_at as usize..at as usize];
+    match Index::read(alloc, table, postings, footer.series) {
+        Ok(index) => Ok(index),
+        Err(IndexFault::BrokenTable { at }) => Err(ReadFault::Broken {
+            at: footer.table_at + at,
+        }),
+        Err(IndexFault::BrokenPostings { at }) => Err(ReadFault::Broken {
+            at: footer.postings_at + at,
+        }),
+        Err(IndexFault::Memory) => Err(ReadFault::Memory),
     }
 }
