@@ -1,1 +1,8 @@
+mod BlockLaws
+mod EntryLaws
+mod FileLaws
+mod IndexLaws
+mod RuleLaws
 mod SaidLaws
+mod SectionLaws
+mod WholeLaws

@@ -1,11 +1,11 @@
 -- What a reader of a part finds, section by section. Only private functions cite it.
-use Rattle.std.specs.Prelude.{◌≡◌, ◌⊎◌, ℕ, suc, ◌+◌, ◌-◌, ◌*◌, ◌≤◌, ◌==◌, ◌&&◌, ◌||◌, nat_le, nat_lt, not, sum, Bool, true, false, List, [], ◌∷◌, ◌++◌, length, map, take, drop, bytes_eq, Option, Some, None, if◌then◌else◌, ⊤}
+use Rattle.std.specs.Prelude.{◌≡◌, ◌⊎◌, ℕ, suc, ◌+◌, ◌-◌, ◌*◌, ◌%◌, ◌<◌, ◌≤◌, ◌==◌, ◌&&◌, ◌||◌, nat_le, nat_lt, not, sum, Bool, true, false, List, [], ◌∷◌, ◌++◌, length, map, take, drop, bytes_eq, Option, Some, None, if◌then◌else◌, ⊤}
 use Rattle.vm_base.specs.Sorted.{last_of}
 use Rattle.vm_base.specs.declared.stamped.Stamped.{Stamped}
 use Rattle.vm_block.specs.Block.{BreaksAt, IsBlock}
 use Rattle.vm_block.specs.Header.{IsHeader, field, field_rules, first_broken, header_bytes}
 use Rattle.vm_block.specs.declared.header.BlockHeader.{BlockHeader}
-use Rattle.vm_part.specs.Broken.{BreaksBehind, SeriesBreaks, SeriesStands, SomeBreaks, Stand, end_of, entries_at, entries_rules, first_sample, footer_rules, is_whole, may_follow, postings_in, table_in}
+use Rattle.vm_part.specs.Broken.{BreaksBehind, SeriesBreaks, SeriesStands, SomeBreaks, Stand, end_of, entries_at, entries_rules, first_sample, footer_rules, is_whole, may_follow, number_at, postings_in, table_in}
 use Rattle.vm_index.specs.Reading.{IsRefused}
 use Rattle.vm_index.specs.declared.fault.IndexFault.TheVariants.{BrokenTable, BrokenPostings}
 use Rattle.vm_part.specs.Part.{Block, block_bytes, blocks_bytes, end_mark, front_mark, samples_in}
@@ -20,6 +20,27 @@ use Rattle.vm_part.specs.declared.footer.Footer.{Footer}
 -- the rules of the front and of the footer
 abbrev pub front_rules : ℕ → List ℕ → List (ℕ × Bool)
 front_rules at bytes = (0, is_whole 0 bytes && bytes_eq (take 8 bytes) front_mark) ∷ footer_rules at bytes
+
+-- the rules of the footer at a place, one by one
+abbrev pub is_entries_place : ℕ → List ℕ → Bool
+is_entries_place at bytes = is_whole at bytes && nat_le 8 (number_at at bytes) && nat_le (number_at at bytes) at
+
+abbrev pub is_table_place : ℕ → List ℕ → Bool
+is_table_place at bytes =
+    is_whole (at + 8) bytes && nat_lt (number_at at bytes) (number_at (at + 8) bytes)
+    && (number_at (at + 8) bytes - number_at at bytes) % 40 == 0 && nat_le (number_at (at + 8) bytes) at
+
+abbrev pub is_postings_place : ℕ → List ℕ → Bool
+is_postings_place at bytes =
+    is_whole (at + 16) bytes && nat_le (number_at (at + 8) bytes) (number_at (at + 16) bytes) && nat_le (number_at (at + 16) bytes) at
+
+abbrev pub is_series_count : ℕ → List ℕ → Bool
+is_series_count at bytes =
+    is_whole (at + 24) bytes && number_at (at + 24) bytes * 40 == number_at (at + 8) bytes - number_at at bytes
+
+-- a mark stands at a place
+abbrev pub has_mark : ℕ → List ℕ → List ℕ → Bool
+has_mark at bytes mark = is_whole at bytes && bytes_eq (field 8 at bytes) mark
 
 -- the sections of a file stand one behind the other, up to a footer at this place
 pub record AreSections (at : ℕ) (bytes : List ℕ) (f : Footer) : Type 0 where
@@ -88,7 +109,7 @@ pub record HasHeader (rest : List ℕ) (h : BlockHeader) : Type 0 where
 
 -- no header stands there, or one that breaks its rules
 abbrev pub NoHeader : List ℕ → ℕ → Type 0
-NoHeader rest at = if nat_lt (length rest) 40 then at ≡ 0 else first_broken (field_rules (take 40 rest)) ≡ Some at
+NoHeader rest at = ((length rest < 40) × (at ≡ 0)) ⊎ ((40 ≤ length rest) × (first_broken (field_rules (take 40 rest)) ≡ Some at))
 
 -- why a body is refused
 abbrev pub IsBodyFault : BlockHeader → List ℕ → ReadFault → Type 0

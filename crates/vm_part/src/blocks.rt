@@ -1,9 +1,9 @@
 //! The blocks of a part file.
-ghost use Rattle.std.specs.Prelude.{◌≡◌, ◌==◌, ◌+◌, ◌^◌, ◌<◌, ◌≤◌, nat_le, length, IfOk, IfErr, OnOk, if◌then◌else◌};
+ghost use Rattle.std.specs.Prelude.{◌≡◌, ◌==◌, ◌+◌, ◌^◌, ◌<◌, ◌≤◌, nat_le, length, drop, IfOk, IfErr, OnOk, if◌then◌else◌};
 ghost use Rattle.vm_base.specs.Sorted.{last_of};
 ghost use Rattle.vm_block.specs.Block.{IsBlock};
 ghost use Rattle.vm_block.specs.Header.{IsHeader};
-ghost use Rattle.vm_part.specs.Broken.{first_sample, may_follow};
+ghost use Rattle.vm_part.specs.Broken.{end_of, first_sample, may_follow};
 ghost use Rattle.vm_part.specs.Reading.{HasAllBlocks, HasBlocks, HasHeader, IsBlockFault, IsBlocksFault, IsBodyFault, IsSeriesFault, Joins, NoHeader, PlacesRise, may_come};
 
 use crate::{Entry, ReadFault};
@@ -35,13 +35,20 @@ pub(crate) fn check_blocks(
     ensures broken { IfErr result (λ fault. IsBlocksFault bytes.now entries_at entries.now fault) }
 {
     'series: for place in 0..entries.len() {
-        let end = match entries.get(place + 1) {
-            Some(following) => following.start,
-            None => entries_at,
-        };
+        let end = end_of(entries, place + 1, entries_at);
         check_series(alloc, bytes, entries_at, end, &entries[place])?;
     }
     Ok(())
+}
+
+/// Where the blocks of the series before a place end: where those of the next one begin, or all.
+fn end_of(entries: &[Entry], place: usize, entries_at: u64) -> u64
+    ensures { result ≡ end_of entries_at (drop place entries.now) }
+{
+    match entries.get(place) {
+        Some(following) => following.start,
+        None => entries_at,
+    }
 }
 
 /// Sees that the blocks of a series stand in a file, up to a place.

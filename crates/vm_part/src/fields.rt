@@ -1,7 +1,7 @@
 //! Fields of bytes that are read, each with its rule.
-ghost use Rattle.std.specs.Prelude.{◌≡◌, ◌+◌, ◌^◌, ◌<◌, ◌≤◌, ◌&&◌, true, false, OnOk, IfOk, IfErr, length, bytes_eq};
-ghost use Rattle.vm_block.specs.Header.{field};
+ghost use Rattle.std.specs.Prelude.{◌≡◌, ◌+◌, ◌^◌, ◌<◌, ◌≤◌, true, false, OnOk, IfOk, IfErr, length};
 ghost use Rattle.vm_part.specs.Broken.{is_whole, number_at};
+ghost use Rattle.vm_part.specs.Reading.{has_mark};
 
 use vm_base::Broken;
 
@@ -49,7 +49,7 @@ pub(crate) fn read_number(bytes: &[u8], at: u64) -> Result<u64, Broken>
 /// Whether a mark stands at a place.
 pub(crate) fn has_mark(bytes: &[u8], at: u64, mark: &[u8; 8]) -> bool
     requires { at + 8 < 2 ^ 64 }
-    ensures { result ≡ (is_whole at bytes.now && bytes_eq (field 8 at bytes.now) mark.now) }
+    ensures { result ≡ has_mark at bytes.now mark.now }
 {
     if !is_whole(bytes, at) {
         return false;

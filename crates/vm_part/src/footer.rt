@@ -1,8 +1,8 @@
 //! The end of a part file.
-ghost use Rattle.std.specs.Prelude.{◌≡◌, ◌==◌, ◌+◌, ◌-◌, ◌*◌, ◌%◌, ◌^◌, ◌<◌, ◌≤◌, ◌&&◌, nat_le, nat_lt, true, false, None, Some, IfOk, IfErr, OnOk, length};
+ghost use Rattle.std.specs.Prelude.{◌≡◌, ◌==◌, ◌+◌, ◌-◌, ◌*◌, ◌^◌, ◌<◌, ◌≤◌, true, false, None, Some, IfOk, IfErr, OnOk};
 ghost use Rattle.vm_block.specs.Header.{first_broken};
-ghost use Rattle.vm_part.specs.Broken.{footer_at, is_whole, number_at};
-ghost use Rattle.vm_part.specs.Reading.{AreSections, front_rules};
+ghost use Rattle.vm_part.specs.Broken.{footer_at, number_at};
+ghost use Rattle.vm_part.specs.Reading.{AreSections, front_rules, is_entries_place, is_postings_place, is_series_count, is_table_place};
 
 use crate::fields::{check, has_mark, read_number};
 use vm_base::Broken;
@@ -36,7 +36,7 @@ pub(crate) fn read_footer(len: u64, bytes: &[u8]) -> Result<Footer, Broken>
     let entries_at = read_entries_at(bytes, at)?;
     let table_at = read_table_at(bytes, at, entries_at)?;
     let postings_at = read_postings_at(bytes, at, table_at)?;
-    let series = read_series(bytes, at, table_at - entries_at)?;
+    let series = read_series(bytes, at, entries_at, table_at)?;
     let rows = read_number(bytes, at + 32)?;
     check(has_mark(bytes, at + 40, b"VMDPEND1"), at + 40)?;
     Ok(Footer {
@@ -52,9 +52,8 @@ pub(crate) fn read_footer(len: u64, bytes: &[u8]) -> Result<Footer, Broken>
 fn read_entries_at(bytes: &[u8], at: u64) -> Result<u64, Broken>
     requires { at + 48 < 2 ^ 64 }
     ensures number { IfOk result (λ n. n ≡ number_at at bytes.now) }
-    ensures kept { IfOk result (λ n. (is_whole at bytes.now && nat_le 8 n && nat_le n at) ≡ true) }
-    ensures broken { IfErr result (λ e. (e.at ≡ at)
-        × ((is_whole at bytes.now && nat_le 8 (number_at at bytes.now) && nat_le (number_at at bytes.now) at) ≡ false)) }
+    ensures kept { OnOk result (is_entries_place at bytes.now ≡ true) }
+    ensures broken { IfErr result (λ e. (is_entries_place at bytes.now ≡ false) × (e.at ≡ at)) }
 {
     let entries_at = read_number(bytes, at)?;
     check(8 <= entries_at && entries_at <= at, at)?;
@@ -63,12 +62,11 @@ fn read_entries_at(bytes: &[u8], at: u64) -> Result<u64, Broken>
 
 /// Where the label table stands: behind some whole entries.
 fn read_table_at(bytes: &[u8], at: u64, entries_at: u64) -> Result<u64, Broken>
-    requires { at + 48 < 2 ^ 64 }
+    requires place { at + 48 < 2 ^ 64 }
+    requires entries { entries_at ≡ number_at at bytes.now }
     ensures number { IfOk result (λ n. n ≡ number_at (at + 8) bytes.now) }
-    ensures kept { IfOk result (λ n. (is_whole (at + 8) bytes.now && nat_lt entries_at n && (n - entries_at) % 40 == 0
-        && nat_le n at) ≡ true) }
-    ensures broken { IfErr result (λ e. let n = number_at (at + 8) bytes.now in (e.at ≡ at + 8)
-        × ((is_whole (at + 8) bytes.now && nat_lt entries_at n && (n - entries_at) % 40 == 0 && nat_le n at) ≡ false)) }
+    ensures kept { OnOk result (is_table_place at bytes.now ≡ true) }
+    ensures broken { IfErr result (λ e. (is_table_place at bytes.now ≡ false) × (e.at ≡ at + 8)) }
 {
     let table_at = read_number(bytes, at + 8)?;
     let is_kept = entries_at < table_at && (table_at - entries_at) % 40 == 0 && table_at <= at;
@@ -78,27 +76,29 @@ fn read_table_at(bytes: &[u8], at: u64, entries_at: u64) -> Result<u64, Broken>
 
 /// Where the postings stand: behind the label table.
 fn read_postings_at(bytes: &[u8], at: u64, table_at: u64) -> Result<u64, Broken>
-    requires { at + 48 < 2 ^ 64 }
+    requires place { at + 48 < 2 ^ 64 }
+    requires table { table_at ≡ number_at (at + 8) bytes.now }
     ensures number { IfOk result (λ n. n ≡ number_at (at + 16) bytes.now) }
-    ensures kept { IfOk result (λ n. (is_whole (at + 16) bytes.now && nat_le table_at n && nat_le n at) ≡ true) }
-    ensures broken { IfErr result (λ e. let n = number_at (at + 16) bytes.now in (e.at ≡ at + 16)
-        × ((is_whole (at + 16) bytes.now && nat_le table_at n && nat_le n at) ≡ false)) }
+    ensures kept { OnOk result (is_postings_place at bytes.now ≡ true) }
+    ensures broken { IfErr result (λ e. (is_postings_place at bytes.now ≡ false) × (e.at ≡ at + 16)) }
 {
     let postings_at = read_number(bytes, at + 16)?;
     check(table_at <= postings_at && postings_at <= at, at + 16)?;
     Ok(postings_at)
 }
 
-/// How many series there are, which have so many bytes of entries.
-fn read_series(bytes: &[u8], at: u64, entries_len: u64) -> Result<u64, Broken>
-    requires { at + 48 < 2 ^ 64 }
+/// How many series there are: as many as the entries between two places.
+fn read_series(bytes: &[u8], at: u64, entries_at: u64, table_at: u64) -> Result<u64, Broken>
+    requires place { at + 48 < 2 ^ 64 }
+    requires entries { entries_at ≡ number_at at bytes.now }
+    requires table { table_at ≡ number_at (at + 8) bytes.now }
+    requires rise { entries_at ≤ table_at }
     ensures number { IfOk result (λ n. n ≡ number_at (at + 24) bytes.now) }
-    ensures kept { IfOk result (λ n. (is_whole (at + 24) bytes.now && n * 40 == entries_len) ≡ true) }
-    ensures broken { IfErr result (λ e. (e.at ≡ at + 24)
-        × ((is_whole (at + 24) bytes.now && number_at (at + 24) bytes.now * 40 == entries_len) ≡ false)) }
+    ensures kept { OnOk result (is_series_count at bytes.now ≡ true) }
+    ensures broken { IfErr result (λ e. (is_series_count at bytes.now ≡ false) × (e.at ≡ at + 24)) }
 {
     let series = read_number(bytes, at + 24)?;
-    check(are_as_many(series, entries_len), at + 24)?;
+    check(are_as_many(series, table_at - entries_at), at + 24)?;
     Ok(series)
 }
 

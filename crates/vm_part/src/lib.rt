@@ -16,6 +16,8 @@ mod fields;
 mod footer;
 mod part;
 mod reading;
+#[cfg(test)]
+mod reading_tests;
 
 pub use entry::Entry;
 pub use fault::ReadFault;
