@@ -20,11 +20,11 @@ use Rattle.vm_block.proofs.Headers.{ranges}
 use Rattle.vm_index.proofs.ListLaws.{all_append, all_more}
 use Rattle.vm_part.specs.Broken.{BreaksBehind, SeriesBreaks, SeriesStands, SomeBreaks, Stand, between, end_of, first_sample, may_follow, may_stand}
 use Rattle.vm_part.specs.Broken.BreaksBehind.{no_header, bad_header, misplaced, bad_body}
-use Rattle.vm_part.specs.Broken.SomeBreaks as some_breaks
+use Rattle.vm_part.specs.Broken.SomeBreaks.{here as breaks_first, later as breaks_later}
 use Rattle.vm_part.specs.Broken.Stand.{none, next}
 use Rattle.vm_part.specs.Part.{Block, block_bytes, blocks_bytes, first_of, samples_in, time_of}
-use Rattle.vm_part.specs.Reading.{AllStand, HasAllBlocks, HasBlocks, HasHeader, IsBlockFault, IsBlocksFault, IsSeriesFault, Joins, NoHeader, PlacesRise, Saw, may_come}
-use Rattle.vm_part.specs.Reading.AllStand as each_stands
+use Rattle.vm_part.specs.Reading.{AllStand, HasAllBlocks, HasBlocks, HasHeader, IsBlockFault, IsBlocksFault, IsBodyFault, IsSeriesFault, Joins, NoHeader, PlacesRise, Saw, may_come}
+use Rattle.vm_part.specs.Reading.AllStand.{none as no_series, next as series_more}
 use Rattle.vm_part.specs.declared.blocks.Seen.{Seen}
 use Rattle.vm_part.specs.declared.entry.Entry.{Entry}
 use Rattle.vm_part.specs.declared.fault.ReadFault.{ReadFault}
@@ -409,12 +409,15 @@ body_within h body at len (no_mantissas times says rise end place broken is) =
 body_within h body at len (another_exponent times mantissas says rise end column another is) = omega arith
 body_within h body at len (values_fall samples mantissas says rise end column values exponent falls is) = omega arith
 
-pub no_body_there : (room : ℕ) (e : Entry) (seen : Seen) (rest : List ℕ) (h : BlockHeader) (at : ℕ) → HasHeader rest h → may_come room e seen h ≡ true
-    → room ≤ length rest → BreaksAt h (field (h.times_len + h.values_len) 40 rest) at → IsBlockFault room e seen rest (Broken at)
-no_body_there room e seen rest h at has may within breaks =
+pub no_body_there : (room : ℕ) (e : Entry) (seen : Seen) (rest body : List ℕ) (h : BlockHeader) (fault : ReadFault) → HasHeader rest h
+    → may_come room e seen h ≡ true → room ≤ length rest → body ≡ field (h.times_len + h.values_len) 40 rest → IsBodyFault h body fault
+    → IsBlockFault room e seen rest fault
+no_body_there room e seen rest body h Memory has may within is why = tt
+no_body_there room e seen rest body h (Broken at) has may within is why =
     let fits = (seen_coming room e h seen may).fits in
     let len : length (field (h.times_len + h.values_len) 40 rest) ≡ h.times_len + h.values_len =
     length-take-le (h.times_len + h.values_len) (drop 40 rest) (omega (arith, length-drop 40 rest)) in
+    let breaks = subst (λ bs. BreaksAt h bs at) is why in
     (omega (arith, body_within h (field (h.times_len + h.values_len) 40 rest) at len breaks),
       λ before saw. bad_body h at has.keeps has.spelled (may_same room e h before seen saw ∙ may) breaks)
 
@@ -424,13 +427,14 @@ not_there room e seen rest h has may =
     (omega arith, λ before saw. misplaced h has.keeps has.spelled (may_same room e h before seen saw ∙ may))
 
 -- a header and a body that stand there are a block more
-pub joins : (room : ℕ) (e : Entry) (rest : List ℕ) (h : BlockHeader) (samples : List Stamped) (old new : Seen) (len : ℕ) → HasHeader rest h
-    → may_come room e old h ≡ true → room ≤ length rest → IsBlock h (field (h.times_len + h.values_len) 40 rest) samples
+pub joins : (room : ℕ) (e : Entry) (rest its : List ℕ) (h : BlockHeader) (samples : List Stamped) (old new : Seen) (len : ℕ) → HasHeader rest h
+    → may_come room e old h ≡ true → room ≤ length rest → its ≡ field (h.times_len + h.values_len) 40 rest → IsBlock h its samples
     → new.blocks ≡ old.blocks + 1 → new.rows ≡ old.rows + length samples → new.last ≡ last_of samples → len ≡ 40 + (h.times_len + h.values_len)
     → Joins room e rest old new len
-joins room e rest h samples old new len has may within is blocks rows last len_is =
+joins room e rest its h samples old new len has may within body_is block blocks rows last len_is =
     let fits = (seen_coming room e h old may).fits in
     let body = field (h.times_len + h.values_len) 40 rest in
+    let is : IsBlock h body samples = subst (λ bs. IsBlock h bs samples) body_is block in
     let b : Block = record { header = h; body = body; samples = samples } in
     record {
       block = b;
@@ -458,14 +462,14 @@ module _ (bytes : List ℕ) (entries : ℕ) (es : List Entry) (place : ℕ) (e :
       → (others : List (List Block)) → AllStand bytes entries (drop (place + 1) es) others → HasAllBlocks bytes entries es
   stands_here end end_is has so_far others rest =
       so_far (has.blocks ∷ others) (subst (λ xs. AllStand bytes entries xs (has.blocks ∷ others)) (sym here)
-      (each_stands.next e (drop (place + 1) es) has.blocks others (subst (λ n. SeriesStands bytes n e has.blocks) end_is has.stand) rest))
+      (series_more e (drop (place + 1) es) has.blocks others (subst (λ n. SeriesStands bytes n e has.blocks) end_is has.stand) rest))
 
   pub later_breaks : (end : ℕ) → end ≡ end_of entries (drop (place + 1) es) → HasBlocks bytes end e
       → ((at : ℕ) → SomeBreaks bytes entries (drop place es) at → SomeBreaks bytes entries es at)
       → (at : ℕ) → SomeBreaks bytes entries (drop (place + 1) es) at → SomeBreaks bytes entries es at
   later_breaks end end_is has so_far at breaks =
       so_far at (subst (λ xs. SomeBreaks bytes entries xs at) (sym here)
-      (some_breaks.later e (drop (place + 1) es) has.blocks at (subst (λ n. SeriesStands bytes n e has.blocks) end_is has.stand) breaks))
+      (breaks_later e (drop (place + 1) es) has.blocks at (subst (λ n. SeriesStands bytes n e has.blocks) end_is has.stand) breaks))
 
   pub breaks_here : (end : ℕ) (fault : ReadFault) → end ≡ end_of entries (drop (place + 1) es) → IsSeriesFault bytes entries end e fault
       → ((at : ℕ) → SomeBreaks bytes entries (drop place es) at → SomeBreaks bytes entries es at)
@@ -473,12 +477,12 @@ module _ (bytes : List ℕ) (entries : ℕ) (es : List Entry) (place : ℕ) (e :
   breaks_here end Memory end_is why so_far = tt
   breaks_here end (Broken at) end_is why so_far =
       so_far at (subst (λ xs. SomeBreaks bytes entries xs at) (sym here)
-      (some_breaks.here e (drop (place + 1) es) at (subst (λ n. SeriesBreaks bytes entries n e at) end_is why)))
+      (breaks_first e (drop (place + 1) es) at (subst (λ n. SeriesBreaks bytes entries n e at) end_is why)))
 
 pub all_stand : (bytes : List ℕ) (entries : ℕ) (es : List Entry) (place : ℕ) → length es ≤ place
     → ((others : List (List Block)) → AllStand bytes entries (drop place es) others → HasAllBlocks bytes entries es) → HasAllBlocks bytes entries es
 all_stand bytes entries es place past so_far =
-    so_far [] (subst (λ xs. AllStand bytes entries xs []) (sym (drop_all place es past)) each_stands.none)
+    so_far [] (subst (λ xs. AllStand bytes entries xs []) (sym (drop_all place es past)) no_series)
 
 -- where the blocks of the series before a place end
 pub end_here : (n : ℕ) (es : List Entry) (i : ℕ) (e : Entry) → slice_get es i ≡ Some e → e.start ≡ end_of n (drop i es)
@@ -491,3 +495,29 @@ end_past n [] zero is = refl
 end_past n [] (suc i) is = refl
 end_past n (x ∷ es) zero is = absurd (cc)
 end_past n (x ∷ es) (suc i) is = end_past n es i is
+
+-- what may come has its samples within those of the entry
+pub rows_within : (room : ℕ) (e : Entry) (h : BlockHeader) (body : List ℕ) (samples : List Stamped) (seen : Seen) → may_come room e seen h ≡ true
+    → IsBlock h body samples → (seen.rows + length samples ≤ e.rows) × (1 ≤ length samples)
+rows_within room e h body samples seen may is =
+    let few = (seen_coming room e h seen may).few in
+    let many = samples_many h body samples is in
+    let some = (ranges h is.header).some in
+    (omega arith, omega arith)
+
+-- and its bytes within the room
+pub bytes_within : (room : ℕ) (e : Entry) (h : BlockHeader) (seen : Seen) (rest : List ℕ) → may_come room e seen h ≡ true → room ≤ length rest
+    → 40 + (h.times_len + h.values_len) ≤ length rest
+bytes_within room e h seen rest may within = let fits = (seen_coming room e h seen may).fits in omega arith
+
+-- ---- the last sample
+
+last_at : (xs : List Stamped) (n : ℕ) (x : Stamped) → suc n ≡ length xs → x ≡ get_or xs n x → Some x ≡ last_of xs
+last_at [] n x long is = absurd (cc)
+last_at (y ∷ []) zero x long is = ap Some is
+last_at (y ∷ []) (suc n) x long is = absurd (cc)
+last_at (y ∷ z ∷ more) zero x long is = absurd (omega arith)
+last_at (y ∷ z ∷ more) (suc n) x long is = last_at (z ∷ more) n x (omega arith) is
+
+pub last_read : (xs : List Stamped) (x : Stamped) → 1 ≤ length xs → x ≡ get_or xs (length xs - 1) x → Some x ≡ last_of xs
+last_read xs x some is = last_at xs (length xs - 1) x (omega arith) is

@@ -1,13 +1,16 @@
 -- Entries one by one, and what their rules say of places, rows and times.
-use Rattle.std.proofs.Common.{◌≡◌, ℕ, zero, suc, ◌+◌, ◌-◌, ◌*◌, ◌≤◌, ◌<◌, Bool, true, false, ◌&&◌, ◌||◌, not, cond, nat_le, nat_lt, ◌==◌, List, [], ◌∷◌, ◌++◌, length, get_or, take, map, sum, Option, Some, None, refl, ap, ap₂, sym, ◌∙◌, subst, inl, inr, append_assoc, arith}
+use Rattle.std.proofs.Common.{◌≡◌, ℕ, zero, suc, ◌+◌, ◌-◌, ◌*◌, ◌≤◌, ◌<◌, Bool, true, false, ◌&&◌, ◌||◌, not, cond, if◌then◌else◌, nat_le, nat_lt, ◌==◌, List, [], ◌∷◌, ◌++◌, length, get_or, take, map, sum, Option, Some, None, refl, ap, ap₂, sym, ◌∙◌, subst, inl, inr, append_assoc, arith}
 use Rattle.std.specs.List.{sum_by}
 use Rattle.std.proofs.lemmas.Bool.{and_parts, cases_eq, eq-eqb, eqb-true, leb-true, ltb-true, ne_eqb}
 use Rattle.std.proofs.lemmas.List.{take_all}
 use Rattle.std.proofs.lemmas.List.Sums.{sum-map, sum_by_more, sum_by_more_le}
 use Rattle.vm_block.specs.Header.{first_broken, is_last_time, is_time}
 use Rattle.vm_part.specs.Broken.{end_of, ends_there, entries_at, entries_rules, entry_at, entry_rules, may_start, none_without_blocks}
-use Rattle.vm_part.specs.Reading.{PlacesRise}
+use Rattle.vm_part.specs.Reading.{IsFaultOf, PlacesRise, entries_section_rules}
 use Rattle.vm_part.specs.declared.entry.Entry.{Entry}
+use Rattle.vm_part.specs.declared.fault.ReadFault.{ReadFault}
+use Rattle.vm_part.specs.declared.fault.ReadFault.TheVariants.{Broken, Memory}
+use Rattle.vm_part.specs.declared.footer.Footer.{Footer}
 use Rattle.vm_part.proofs.RuleLaws.{broken_front, kept_front, kept_one, kept_parts}
 
 -- ---- a loop over entries
@@ -187,3 +190,19 @@ none_joined bytes many at done empty =
     let m : many - 0 ≡ many = omega arith in
     let a : at + 0 ≡ at = omega arith in
     ap (λ es. es ++ entries_at (many - 0) (at + 0) bytes) empty ∙ ap₂ (λ n p. entries_at n p bytes) m a
+
+-- ---- all entries and their rows
+
+pub each_fault : (xs ys : List (ℕ × Bool)) (fault : ReadFault) → IsFaultOf xs fault → IsFaultOf (xs ++ ys) fault
+each_fault xs ys Memory why = tt
+each_fault xs ys (Broken at) why = broken_front xs ys at why
+
+-- where each entry keeps its rules, the number of rows decides
+pub rows_decide : (f : Footer) (bytes : List ℕ) (es : List Entry) (same : Bool) → es ≡ entries_at f.series f.entries_at bytes
+    → same ≡ (sum (map (λ e. e.rows) es) == f.rows) → first_broken (entries_rules f.entries_at bytes f.series f.entries_at None) ≡ None
+    → first_broken (entries_section_rules f bytes) ≡ (if same then None else Some (f.table_at - 24))
+rows_decide f bytes es same es_are same_is kept =
+    let test = (sum (map (λ (e : Entry). e.rows) (entries_at f.series f.entries_at bytes)) == f.rows) in
+    kept_front (entries_rules f.entries_at bytes f.series f.entries_at None) ((f.table_at - 24, test) ∷ []) kept
+    ∙ ap (λ (b : Bool). if b then None else Some (f.table_at - 24))
+    (ap (λ (xs : List Entry). sum (map (λ (e : Entry). e.rows) xs) == f.rows) (sym es_are) ∙ sym same_is)

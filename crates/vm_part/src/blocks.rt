@@ -71,7 +71,7 @@ fn check_series(
         last: None,
     };
     let mut at = entry.start;
-    'blocks: for _ in 0..entry.blocks {
+    'each: for _ in 0..entry.blocks {
         let rest = &bytes[at as usize..entries_at as usize];
         match check_block(alloc, rest, end - at, entry, &mut seen) {
             Ok(len) => at += len,
