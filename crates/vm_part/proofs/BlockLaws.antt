@@ -395,7 +395,7 @@ no_header_there room e seen rest at why =
   where
     places : (bytes : List ℕ) → AllByRecursion (λ x. x.0 ≤ 36) (field_rules bytes)
     places bytes =
-        (omega arith, omega arith, omega arith, omega arith, omega arith, omega arith, omega arith, omega arith, omega arith, omega arith, tt)
+        (omega arith, (omega arith, (omega arith, (omega arith, (omega arith, (omega arith, (omega arith, (omega arith, (omega arith, (omega arith, tt))))))))))
 
 body_within : (h : BlockHeader) (body : List ℕ) (at : ℕ) → length body ≡ h.times_len + h.values_len → BreaksAt h body at → at ≤ 40 + h.times_len + h.values_len
 body_within h body at len (no_times place broken is) =

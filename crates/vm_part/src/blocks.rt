@@ -56,14 +56,14 @@ fn check_series(
     alloc: Global,
     bytes: &[u8],
     entries_at: u64,
-    end: u64,
+    blocks_end: u64,
     entry: &Entry,
 ) -> Result<(), ReadFault>
-    requires start { entry.now.start ≤ end }
-    requires end { end ≤ entries_at }
+    requires start { entry.now.start ≤ blocks_end }
+    requires end { blocks_end ≤ entries_at }
     requires within { entries_at ≤ length bytes.now }
-    ensures stand { OnOk result (HasBlocks bytes.now end entry.now) }
-    ensures broken { IfErr result (λ fault. IsSeriesFault bytes.now entries_at end entry.now fault) }
+    ensures stand { OnOk result (HasBlocks bytes.now blocks_end entry.now) }
+    ensures broken { IfErr result (λ fault. IsSeriesFault bytes.now entries_at blocks_end entry.now fault) }
 {
     let mut seen = Seen {
         blocks: 0,
@@ -73,7 +73,7 @@ fn check_series(
     let mut at = entry.start;
     'each: for _ in 0..entry.blocks {
         let rest = &bytes[at as usize..entries_at as usize];
-        match check_block(alloc, rest, end - at, entry, &mut seen) {
+        match check_block(alloc, rest, blocks_end - at, entry, &mut seen) {
             Ok(len) => at += len,
             Err(ReadFault::Broken { at: place }) => return Err(ReadFault::Broken {
                 at: at + place,
@@ -100,7 +100,8 @@ fn check_block(
     ensures broken { IfErr result (λ fault. IsBlockFault room entry.now seen.old rest.now fault) }
 {
     let header = read_front(rest)?;
-    if !may_come(room, entry, seen, &header) {
+    let left = entry.rows - seen.rows;
+    if !may_come(room, left, entry, seen, &header) {
         return Err(ReadFault::Broken { at: 0 });
     }
     let body_len = header.times_len as usize + header.values_len as usize;
@@ -141,18 +142,19 @@ fn read_body(
     }
 }
 
-/// Whether a block with this header may stand behind those that were seen.
-fn may_come(room: u64, entry: &Entry, seen: &Seen, header: &BlockHeader) -> bool
+/// Whether a block with this header may stand behind those that were seen, where so many samples of the
+/// series are left.
+fn may_come(room: u64, left: u64, entry: &Entry, seen: &Seen, header: &BlockHeader) -> bool
     requires header { IsHeader header.now }
     requires few { seen.now.blocks < entry.now.blocks }
-    requires rows { seen.now.rows ≤ entry.now.rows }
+    requires rows { seen.now.rows + left ≡ entry.now.rows }
     ensures { result ≡ may_come room entry.now seen.now header.now }
 {
     let is_last = seen.blocks + 1 == entry.blocks;
     let len = HEADER_LEN as u64 + u64::from(header.times_len) + u64::from(header.values_len);
     fills(is_last, len, room)
         && may_follow(seen.last, first_sample(header))
-        && fills(is_last, u64::from(header.count), entry.rows - seen.rows)
+        && fills(is_last, u64::from(header.count), left)
         && (seen.blocks > 0 || header.first_time == entry.first_time)
         && (!is_last || header.last_time == entry.last_time)
 }

@@ -1,17 +1,19 @@
 //! A part read from bytes.
 
-ghost use Rattle.std.specs.Prelude.{◌≡◌, ◌-◌, ◌≤◌, length, IfOk, IfErr};
+ghost use Rattle.std.specs.Prelude.{◌≡◌, ◌≤◌, length, IfOk, IfErr, OnOk, ⊤};
 ghost use Rattle.vm_index.specs.Bytes.{postings_bytes};
 ghost use Rattle.vm_index.specs.Index.{postings_of};
 ghost use Rattle.vm_index.specs.Reading.{IsTable};
 ghost use Rattle.vm_part.specs.Broken.{IsReadFault, postings_in, table_in};
 ghost use Rattle.vm_part.specs.Reading.{AreSections, IsIndexFault};
+ghost use Rattle.vm_part.specs.Said.{Says};
 
 use crate::blocks::check_blocks;
 use crate::entries::read_entries;
 use crate::footer::{Footer, read_footer};
-use crate::{MemPart, ReadFault};
+use crate::{Entry, MemPart, ReadFault};
 use std::alloc::Global;
+use vm_base::List;
 use vm_index::{Index, IndexFault};
 
 /// How many bytes the footer takes.
@@ -30,15 +32,38 @@ impl MemPart {
         ensures found { IfOk result (λ part. (part.bytes ≡ bytes.items) × (length bytes.items ≡ len)) }
         ensures broken { IfErr result (λ fault. IsReadFault len bytes.items fault) }
     {
-        if len < MIN_LEN {
-            return Err(ReadFault::Broken { at: 0 });
-        }
-        let footer = read_footer(len, bytes.as_slice())?;
-        let entries = read_entries(alloc, bytes.as_slice(), &footer)?;
-        let index = read_index(alloc, len - FOOTER_LEN, bytes.as_slice(), &footer)?;
-        check_blocks(alloc, bytes.as_slice(), footer.entries_at, entries.as_slice())?;
-        Ok(MemPart::keep(bytes, index, entries, footer.rows))
+        let found = find(alloc, len, bytes.as_slice())?;
+        Ok(MemPart::keep(bytes, found.index, found.entries, found.rows))
     }
+}
+
+/// What was found in the bytes of a part.
+#[derive(Debug, Drop)]
+struct Found {
+    index: Index,
+    entries: List<Entry>,
+    rows: u64,
+}
+
+/// What is found in the bytes of a file that is to have so many.
+fn find(alloc: Global, len: u64, bytes: &[u8]) -> Result<Found, ReadFault>
+    requires { length bytes.now ≤ len }
+    ensures says { IfOk result (λ found. Says (record { bytes = bytes.now; sets = found.index; entries = found.entries; rows = found.rows }) (λ all. ⊤)) }
+    ensures long { OnOk result (length bytes.now ≡ len) }
+    ensures broken { IfErr result (λ fault. IsReadFault len bytes.now fault) }
+{
+    if len < MIN_LEN {
+        return Err(ReadFault::Broken { at: 0 });
+    }
+    let footer = read_footer(len, bytes)?;
+    let entries = read_entries(alloc, bytes, &footer)?;
+    let index = read_index(alloc, len - FOOTER_LEN, bytes, &footer)?;
+    check_blocks(alloc, bytes, footer.entries_at, entries.as_slice())?;
+    Ok(Found {
+        index,
+        entries,
+        rows: footer.rows,
+    })
 }
 
 /// The label index of a file whose footer stands at a place.
@@ -52,12 +77,14 @@ fn read_index(alloc: Global, at: u64, bytes: &[u8], footer: &Footer) -> Result<I
     let postings = &bytes[footer.postings_at as usize..at as usize];
     match Index::read(alloc, table, postings, footer.series) {
         Ok(index) => Ok(index),
-        Err(IndexFault::BrokenTable { at }) => Err(ReadFault::Broken {
-            at: footer.table_at + at,
-        }),
-        Err(IndexFault::BrokenPostings { at }) => Err(ReadFault::Broken {
-            at: footer.postings_at + at,
-        }),
+        Err(IndexFault::BrokenTable { at }) => {
+            let in_table = footer.table_at + at;
+            Err(ReadFault::Broken { at: in_table })
+        }
+        Err(IndexFault::BrokenPostings { at }) => {
+            let in_postings = footer.postings_at + at;
+            Err(ReadFault::Broken { at: in_postings })
+        }
         Err(IndexFault::Memory) => Err(ReadFault::Memory),
     }
 }
