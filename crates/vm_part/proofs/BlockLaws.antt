@@ -104,10 +104,11 @@ up_append : (xs : List Stamped) (y : Stamped) (ys : List Stamped) → IsUp is_in
     → may_follow (last_of xs) (Some y) ≡ true → IsUp is_in_order (xs ++ y ∷ ys)
 up_append [] y ys up behind h = behind
 up_append (x ∷ xs) y ys up behind h =
-    let before = reaches x xs y up h in
-    (all_append (λ z. is_in_order x z ≡ true) xs (y ∷ ys) up.0
-    (before, all_more (λ z. is_in_order y z ≡ true) (λ z. is_in_order x z ≡ true) (λ z after. stamped_order.chain x y z before after) ys behind.0),
-      up_append xs y ys up.1 behind (further xs h))
+    let before = reaches x xs y up h in (
+      all_append (λ z. is_in_order x z ≡ true) xs (y ∷ ys) up.0
+          (before, all_more (λ z. is_in_order y z ≡ true) (λ z. is_in_order x z ≡ true) (λ z after. stamped_order.chain x y z before after) ys behind.0),
+      up_append xs y ys up.1 behind (further xs h),
+    )
   where
     further : (zs : List Stamped) → may_follow (last_of (x ∷ zs)) (Some y) ≡ true → may_follow (last_of zs) (Some y) ≡ true
     further [] k = refl
@@ -262,14 +263,16 @@ stand_first room e _ (next before b stand is may) some =
     go [] empty earlier =
         let s = standing (room - length (blocks_bytes before)) e before b.header may in
         let all : samples_in (before ++ b ∷ []) ≡ ends_of.first ∷ ends_of.more =
-        samples_more before b ∙ ap (λ bs. samples_in bs ++ b.samples) empty ∙ ends_of.is in
-        (subst (λ ss. 1 ≤ length ss) (sym all) (omega arith),
-          ap (λ ss. time_of (first_of ss)) all ∙ ends_of.begins ∙ s.first (ap length empty))
+        samples_more before b ∙ ap (λ bs. samples_in bs ++ b.samples) empty ∙ ends_of.is in (
+          subst (λ ss. 1 ≤ length ss) (sym all) (omega arith),
+          ap (λ ss. time_of (first_of ss)) all ∙ ends_of.begins ∙ s.first (ap length empty),
+        )
     go (x ∷ more) are earlier =
         let long : 1 ≤ length before = subst (λ bs. 1 ≤ length bs) (sym are) (omega arith) in
-        let said = earlier long in
-        (subst (λ ss. 1 ≤ length ss) (sym (samples_more before b)) (omega (arith, length-append (samples_in before) b.samples, said.0)),
-          ap time_of (ap first_of (samples_more before b) ∙ first_append (samples_in before) b.samples said.0) ∙ said.1)
+        let said = earlier long in (
+          subst (λ ss. 1 ≤ length ss) (sym (samples_more before b)) (omega (arith, length-append (samples_in before) b.samples, said.0)),
+          ap time_of (ap first_of (samples_more before b) ∙ first_append (samples_in before) b.samples said.0) ∙ said.1,
+        )
 
 -- what all blocks of a series say
 pub record Whole (room : ℕ) (e : Entry) (blocks : List Block) : Type 0 where
@@ -417,9 +420,10 @@ no_body_there room e seen rest body h (Broken at) has may within is why =
     let fits = (seen_coming room e h seen may).fits in
     let len : length (field (h.times_len + h.values_len) 40 rest) ≡ h.times_len + h.values_len =
     length-take-le (h.times_len + h.values_len) (drop 40 rest) (omega (arith, length-drop 40 rest)) in
-    let breaks = subst (λ bs. BreaksAt h bs at) is why in
-    (omega (arith, body_within h (field (h.times_len + h.values_len) 40 rest) at len breaks),
-      λ before saw. bad_body h at has.keeps has.spelled (may_same room e h before seen saw ∙ may) breaks)
+    let breaks = subst (λ bs. BreaksAt h bs at) is why in (
+      omega (arith, body_within h (field (h.times_len + h.values_len) 40 rest) at len breaks),
+      λ before saw. bad_body h at has.keeps has.spelled (may_same room e h before seen saw ∙ may) breaks,
+    )
 
 pub not_there : (room : ℕ) (e : Entry) (seen : Seen) (rest : List ℕ) (h : BlockHeader) → HasHeader rest h → may_come room e seen h ≡ false
     → IsBlockFault room e seen rest (Broken 0)

@@ -98,9 +98,10 @@ pub all_keep : (end : ℕ) (bytes : List ℕ) (n at : ℕ) (before : Option Entr
 all_keep end bytes zero at before h = tt
 all_keep end bytes (suc n) at before h =
     let e = entry_at at bytes in
-    let both = kept_parts (entry_rules end at before (n == 0) e) (entries_rules end bytes n (at + 40) (Some e)) h in
-    (subst (λ k. Keeps end before (k == 0) e) (sym (entries_many n (at + 40) bytes)) (keeps end at before (n == 0) e both.0),
-      all_keep end bytes n (at + 40) (Some e) both.1)
+    let both = kept_parts (entry_rules end at before (n == 0) e) (entries_rules end bytes n (at + 40) (Some e)) h in (
+      subst (λ k. Keeps end before (k == 0) e) (sym (entries_many n (at + 40) bytes)) (keeps end at before (n == 0) e both.0),
+      all_keep end bytes n (at + 40) (Some e) both.1,
+    )
 
 -- where a series has no blocks, the next one begins where it does
 pub record Follows (e following : Entry) : Type 0 where

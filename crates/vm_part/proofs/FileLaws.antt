@@ -73,9 +73,10 @@ entries_keep bytes f es es_are all =
     let each = entries_rules f.entries_at bytes f.series f.entries_at None in
     let rows = (f.table_at - 24, sum (map (λ (e : Entry). e.rows) read) == f.rows) ∷ [] in
     let both = kept_parts each rows all in
-    let one = kept_one (f.table_at - 24) (sum (map (λ (e : Entry). e.rows) read) == f.rows) [] both.1 in
-    (subst (AllKeep f.entries_at None) (sym es_are) (all_keep f.entries_at bytes f.series f.entries_at None both.0),
-      ap (λ xs. sum (map (λ (e : Entry). e.rows) xs)) es_are ∙ eqb-true (sum (map (λ (e : Entry). e.rows) read)) f.rows one.0)
+    let one = kept_one (f.table_at - 24) (sum (map (λ (e : Entry). e.rows) read) == f.rows) [] both.1 in (
+      subst (AllKeep f.entries_at None) (sym es_are) (all_keep f.entries_at bytes f.series f.entries_at None both.0),
+      ap (λ xs. sum (map (λ (e : Entry). e.rows) xs)) es_are ∙ eqb-true (sum (map (λ (e : Entry). e.rows) read)) f.rows one.0,
+    )
 
 pub entries_rise : (bytes : List ℕ) (f : Footer) (es : List Entry) → es ≡ entries_at f.series f.entries_at bytes
     → first_broken (entries_section_rules f bytes) ≡ None → PlacesRise f.entries_at es

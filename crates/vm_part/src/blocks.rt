@@ -75,9 +75,10 @@ fn check_series(
         let rest = &bytes[at as usize..entries_at as usize];
         match check_block(alloc, rest, blocks_end - at, entry, &mut seen) {
             Ok(len) => at += len,
-            Err(ReadFault::Broken { at: place }) => return Err(ReadFault::Broken {
-                at: at + place,
-            }),
+            Err(ReadFault::Broken { at: place }) => {
+                let found = at + place;
+                return Err(ReadFault::Broken { at: found });
+            }
             Err(ReadFault::Memory) => return Err(ReadFault::Memory),
         }
     }
@@ -125,11 +126,7 @@ fn read_front(rest: &[u8]) -> Result<BlockHeader, Broken>
 }
 
 /// The samples of a block with this header and this body.
-fn read_body(
-    alloc: Global,
-    header: &BlockHeader,
-    body: &[u8],
-) -> Result<List<Stamped>, ReadFault>
+fn read_body(alloc: Global, header: &BlockHeader, body: &[u8]) -> Result<List<Stamped>, ReadFault>
     requires header { IsHeader header.now }
     requires len { length body.now ≡ header.now.times_len + header.now.values_len }
     ensures block { IfOk result (λ samples. IsBlock header.now body.now samples) }

@@ -28,7 +28,10 @@ pub(crate) fn read_entries(
     ensures broken { IfErr result (λ fault. IsFaultOf (entries_section_rules footer.now bytes.now) fault) }
 {
     let entries = read_each(alloc, bytes, footer)?;
-    check(have_rows(entries.as_slice(), footer.rows), footer.table_at - 24)?;
+    check(
+        have_rows(entries.as_slice(), footer.rows),
+        footer.table_at - 24,
+    )?;
     Ok(entries)
 }
 
@@ -45,7 +48,13 @@ fn read_each(alloc: Global, bytes: &[u8], footer: &Footer) -> Result<List<Entry>
     'each: for n in 0..footer.series {
         let at = footer.entries_at + ENTRY_LEN * n;
         let entry = entry_at(bytes, at);
-        check_entry(footer.entries_at, at, before, n + 1 == footer.series, &entry)?;
+        check_entry(
+            footer.entries_at,
+            at,
+            before,
+            n + 1 == footer.series,
+            &entry,
+        )?;
         entries.push(entry)?;
         before = Some(entry);
     }
@@ -78,7 +87,10 @@ fn check_entry(
     ensures kept { OnOk result (first_broken (entry_rules end at before is_last entry.now) ≡ None) }
     ensures broken { IfErr result (λ e. first_broken (entry_rules end at before is_last entry.now) ≡ Some e.at) }
 {
-    check(may_start(before, entry.start) && ends_there(end, is_last, entry), at)?;
+    check(
+        may_start(before, entry.start) && ends_there(end, is_last, entry),
+        at,
+    )?;
     check(have_room(entry.start, entry.blocks, end), at + 8)?;
     check(may_have_rows(entry.blocks, entry.rows), at + 16)?;
     check(may_begin(entry), at + 24)?;

@@ -14,8 +14,8 @@ each-preserved c =
 pub returns-in-Err-Broken-clause-broken : goal.returns-in-Err-Broken-clause-broken
 returns-in-Err-Broken-clause-broken c =
     let fault = rw c.in-Err-Broken.field-0-is at c.in-Err-Broken.ensures.broken in
-    series_breaks c.args.bytes.now c.args.entries_at c.args.blocks_end c.args.entry.now c.each.at c.each.counter c.in-Err-Broken.place
-    (c.each.at + c.in-Err-Broken.place) c.each.seen c.each.invariant (omega (arith, c.each-test.true)) fault.1 refl
+    rw c.in-Err-Broken.field-0-is (series_breaks c.args.bytes.now c.args.entries_at c.args.blocks_end c.args.entry.now c.each.at c.each.counter
+    c.in-Err-Broken.place (c.each.at + c.in-Err-Broken.place) c.each.seen c.each.invariant (omega (arith, c.each-test.true)) fault.1 refl)
 
 pub returns-clause-stand : goal.returns-clause-stand
 returns-clause-stand c =
