@@ -1,81 +1,103 @@
--- Writing a part piece by piece: what stands in its file, and what a crash may leave of it.
-use Rattle.std.proofs.Common.{◌≡◌, ◌≢◌, ◌⊎◌, ℕ, ◌+◌, ◌-◌, ◌<◌, ◌≤◌, min, max, List, [], ◌∷◌, ◌++◌, length, take, drop, inl, inr, refl, sym, ap, ◌∙◌, subst, arith}
-use Rattle.std.proofs.Math.Seq.{take-add}
-use Rattle.std.proofs.lemmas.List.{append-nil, drop_all, length-drop, length-take-le, take-take}
-use Rattle.vm_outside.specs.Disk.{Each, Elapses, Follows, Holds, Image, Leaves, NoMore, Torn}
-use Rattle.vm_part.specs.Files.{Begun, HasWritten, next_len, written_on}
+-- What the checks of a file say of all of it: where it breaks, or which part it is.
+use Rattle.std.proofs.Common.{◌≡◌, ℕ, ◌+◌, ◌-◌, ◌≤◌, ◌<◌, ◌==◌, Bool, true, List, [], ◌∷◌, ◌++◌, length, map, sum, Option, Some, None, refl, ap, sym, ◌∙◌, subst, ⊎_elim, append_assoc, arith}
+use Rattle.std.proofs.lemmas.Bool.{eqb-true}
+use Rattle.vm_block.specs.Header.{first_broken}
+use Rattle.vm_index.specs.Bytes.{postings_bytes}
+use Rattle.vm_index.specs.Index.{postings_of}
+use Rattle.vm_index.specs.Reading.{IsTable}
+use Rattle.vm_index.proofs.ReadLaws.{IsBytes}
+use Rattle.vm_labels.specs.declared.pair.Pair.{Pair}
+use Rattle.vm_part.specs.Broken.{Breaks, IsReadFault, end_of, entries_at, entries_rules, footer_at, postings_in, rules, table_in}
+use Rattle.vm_part.specs.Broken.Breaks.{wrong_field, in_table, in_postings, in_blocks}
+use Rattle.vm_part.specs.Reading.{AreSections, HasAllBlocks, IsBlocksFault, IsFaultOf, IsIndexFault, PlacesRise, entries_section_rules, front_rules}
+use Rattle.vm_part.specs.Said.{Says}
+use Rattle.vm_part.specs.declared.entry.Entry.{Entry}
+use Rattle.vm_part.specs.declared.fault.ReadFault.{ReadFault}
+use Rattle.vm_part.specs.declared.fault.ReadFault.TheVariants.{Broken, Memory}
+use Rattle.vm_part.specs.declared.footer.Footer.{Footer}
+use Rattle.vm_part.proofs.EntryLaws.{AllKeep, all_keep, entries_many, places_rise}
+use Rattle.vm_part.proofs.RuleLaws.{broken_front, kept_front, kept_one, kept_parts}
+use Rattle.vm_part.proofs.WholeLaws.{says_all}
 
--- a call after which a crash may leave what follows from what it might have left before
-pub leaves_step : {D : Type 0} (moment : D → ℕ) (left_since : D → ℕ → Image → Type 0) (may_leave : D → ℕ → List ℕ → Type 0) (old new : D)
-    (file : ℕ) (step : List ℕ → List ℕ → Type 0) → Follows file step (may_leave old) (may_leave new)
-    → Elapses (moment old) (moment new) (left_since old) (left_since new) (may_leave new)
-    → Leaves moment left_since old new (λ image. Follows file step (may_leave old) (λ f left. left ≡ image f))
-leaves_step moment left_since may_leave old new file step crash time = record { later = time.later; each = each }
-  where
-    of_image : (image : Image) → Each (may_leave new) image → Follows file step (may_leave old) (λ f left. left ≡ image f)
-    of_image image each = record {
-      own = λ left is. crash.own left (subst (may_leave new file) (sym is) (each file));
-      others = λ other apart left is. crash.others other apart left (subst (may_leave new other) (sym is) (each other));
-    }
+-- ---- rules
 
-    choose : (since : ℕ) (image : Image) → left_since old since image ⊎ Each (may_leave new) image
-        → left_since old since image ⊎ Follows file step (may_leave old) (λ f left. left ≡ image f)
-    choose since image (inl before) = inl before
-    choose since image (inr now) = inr (of_image image now)
+-- where the front and the footer keep their rules, the entries decide
+sections_decide : (at : ℕ) (bytes : List ℕ) → first_broken (front_rules at bytes) ≡ None
+    → first_broken (rules at bytes) ≡ first_broken (entries_section_rules (footer_at at bytes) bytes)
+sections_decide at bytes kept =
+    let f = footer_at at bytes in
+    let each = entries_rules f.entries_at bytes f.series f.entries_at None in
+    let rows = (f.table_at - 24, sum (map (λ (e : Entry). e.rows) (entries_at f.series f.entries_at bytes)) == f.rows) ∷ [] in
+    ap first_broken (append_assoc (front_rules at bytes) each rows) ∙ kept_front (front_rules at bytes) (each ++ rows) kept
 
-    each : (since : ℕ) (image : Image) → since ≤ moment old → left_since new since image
-        → left_since old since image ⊎ Follows file step (may_leave old) (λ f left. left ≡ image f)
-    each since image early left = choose since image (time.nothing_else since image early left)
+pub footer_fault : (len : ℕ) (bytes : List ℕ) (at : ℕ) → 56 ≤ len → first_broken (front_rules (len - 48) bytes) ≡ Some at → Breaks len bytes at
+footer_fault len bytes at long broken =
+    let f = footer_at (len - 48) bytes in
+    let each = entries_rules f.entries_at bytes f.series f.entries_at None in
+    let rows = (f.table_at - 24, sum (map (λ (e : Entry). e.rows) (entries_at f.series f.entries_at bytes)) == f.rows) ∷ [] in
+    wrong_field at long (broken_front (front_rules (len - 48) bytes ++ each) rows at (broken_front (front_rules (len - 48) bytes) each at broken))
 
--- ---- what a write leaves
+pub rules_kept : (at : ℕ) (bytes : List ℕ) (f : Footer) → first_broken (front_rules at bytes) ≡ None → f ≡ footer_at at bytes
+    → first_broken (entries_section_rules f bytes) ≡ None → first_broken (rules at bytes) ≡ None
+rules_kept at bytes f kept f_is all =
+    sections_decide at bytes kept ∙ ap (λ g. first_broken (entries_section_rules g bytes)) (sym f_is) ∙ all
 
--- a piece fits in, and the next one with it
-next_fits : (at n m len : ℕ) → n ≡ min m (len - at) → at ≤ len → (at + n ≤ len) × (n ≤ len - at)
-next_fits at n m len is within = (grind arith, grind arith)
+pub entries_fault : (len : ℕ) (bytes : List ℕ) (f : Footer) (fault : ReadFault) → 56 ≤ len → first_broken (front_rules (len - 48) bytes) ≡ None
+    → f ≡ footer_at (len - 48) bytes → IsFaultOf (entries_section_rules f bytes) fault → IsReadFault len bytes fault
+entries_fault len bytes f Memory long kept f_is why = tt
+entries_fault len bytes f (Broken at) long kept f_is why =
+    wrong_field at long (sections_decide (len - 48) bytes kept ∙ ap (λ g. first_broken (entries_section_rules g bytes)) (sym f_is) ∙ why)
 
--- a piece more stands in the file, and nothing behind it
-pub written_more : (begun : Begun) (n : ℕ) (image : List ℕ) (files after : Image) → HasWritten begun files → begun.done ≤ length begun.part.bytes
-    → n ≡ next_len begun → image ≡ begun.part.bytes
-    → Holds begun.done (take (begun.done + n - begun.done) (drop begun.done image)) (files begun.file) (after begun.file)
-    → HasWritten (record { file = begun.file; part = begun.part; done = begun.done + n }) after
-written_more begun n image files after has within is_next is_image holds = record { within = short; written = front }
-  where
-    bytes : List ℕ
-    bytes = begun.part.bytes
+pub index_fault : (len : ℕ) (bytes : List ℕ) (f : Footer) (fault : ReadFault) → 56 ≤ len → first_broken (rules (len - 48) bytes) ≡ None
+    → f ≡ footer_at (len - 48) bytes → IsIndexFault (len - 48) f bytes fault → IsReadFault len bytes fault
+index_fault len bytes f Memory long kept f_is why = tt
+index_fault len bytes f (Broken at) long kept f_is why =
+    ⊎_elim (λ table. subst (Breaks len bytes) (sym table.1) (in_table f table.0 long kept f_is table.2))
+    (λ postings. subst (Breaks len bytes) (sym postings.1) (in_postings f postings.0 long kept f_is postings.2)) why
 
-    at : ℕ
-    at = begun.done
+pub blocks_fault : (len : ℕ) (bytes : List ℕ) (f : Footer) (es : List Entry) (sets : List (List Pair)) (fault : ReadFault) → 56 ≤ len
+    → first_broken (rules (len - 48) bytes) ≡ None → f ≡ footer_at (len - 48) bytes → IsTable f.series (table_in f bytes) sets
+    → postings_in (len - 48) f bytes ≡ postings_bytes (postings_of sets) → es ≡ entries_at f.series f.entries_at bytes
+    → IsBlocksFault bytes f.entries_at es fault → IsReadFault len bytes fault
+blocks_fault len bytes f es sets Memory long kept f_is table postings es_are why = tt
+blocks_fault len bytes f es sets (Broken at) long kept f_is table postings es_are why =
+    in_blocks f sets at long kept f_is table postings (subst (λ xs. IsBlocksFault bytes f.entries_at xs (Broken at)) es_are why)
 
-    old : List ℕ
-    old = files begun.file
+-- ---- the entries
 
-    piece : List ℕ
-    piece = take n (drop at bytes)
+entries_keep : (bytes : List ℕ) (f : Footer) (es : List Entry) → es ≡ entries_at f.series f.entries_at bytes
+    → first_broken (entries_section_rules f bytes) ≡ None
+    → AllKeep f.entries_at None es × (sum (map (λ e. e.rows) es) ≡ f.rows)
+entries_keep bytes f es es_are all =
+    let read = entries_at f.series f.entries_at bytes in
+    let each = entries_rules f.entries_at bytes f.series f.entries_at None in
+    let rows = (f.table_at - 24, sum (map (λ (e : Entry). e.rows) read) == f.rows) ∷ [] in
+    let both = kept_parts each rows all in
+    let one = kept_one (f.table_at - 24) (sum (map (λ (e : Entry). e.rows) read) == f.rows) [] both.1 in (
+      subst (AllKeep f.entries_at None) (sym es_are) (all_keep f.entries_at bytes f.series f.entries_at None both.0),
+      ap (λ xs. sum (map (λ (e : Entry). e.rows) xs)) es_are ∙ eqb-true (sum (map (λ (e : Entry). e.rows) read)) f.rows one.0,
+    )
 
-    as_piece : take (at + n - at) (drop at image) ≡ piece
-    as_piece = ap (λ xs. take (at + n - at) (drop at xs)) is_image ∙ ap (λ m. take m (drop at bytes)) (grind arith)
+pub entries_rise : (bytes : List ℕ) (f : Footer) (es : List Entry) → es ≡ entries_at f.series f.entries_at bytes
+    → first_broken (entries_section_rules f bytes) ≡ None → PlacesRise f.entries_at es
+entries_rise bytes f es es_are all = places_rise f.entries_at None es (entries_keep bytes f es es_are all).0
 
-    fits : (at + n ≤ length bytes) × (n ≤ length bytes - at)
-    fits = next_fits at n 163880 (length bytes) is_next within
+first_place : (end : ℕ) (es : List Entry) → 1 ≤ length es → AllKeep end None es → end_of end es ≡ 8
+first_place end [] some keep = absurd (omega arith)
+first_place end (e ∷ more) some keep = eqb-true e.start 8 keep.0.start
 
-    len-piece : length piece ≡ n
-    len-piece = length-take-le n (drop at bytes) (subst (λ m. n ≤ m) (sym (length-drop at bytes)) fits.1)
+-- ---- the part
 
-    none_behind : drop (at + length piece) old ≡ []
-    none_behind = drop_all (at + length piece) old (subst (λ m. length old ≤ at + m) (is_next' ∙ sym len-piece) has.within)
-      where
-        is_next' : next_len begun ≡ n
-        is_next' = sym is_next
+pub file_says : (len : ℕ) (bytes : List ℕ) (f : Footer) (es : List Entry) (sets : List (List Pair)) → IsBytes bytes → length bytes ≤ len → 56 ≤ len
+    → f ≡ footer_at (len - 48) bytes → AreSections (len - 48) bytes f → es ≡ entries_at f.series f.entries_at bytes
+    → first_broken (entries_section_rules f bytes) ≡ None → IsTable f.series (table_in f bytes) sets
+    → postings_in (len - 48) f bytes ≡ postings_bytes (postings_of sets) → HasAllBlocks bytes f.entries_at es
+    → Says (record { bytes = bytes; sets = sets; entries = es; rows = f.rows }) (λ all. Unit {0})
+file_says len bytes f es sets are within long f_is s es_are all table postings has =
+    let keep = entries_keep bytes f es es_are all in
+    let many : length es ≡ f.series = ap length es_are ∙ entries_many f.series f.entries_at bytes in
+    says_all (len - 48) bytes f es sets are (omega (arith, s.whole)) s f_is es_are many
+    (first_place f.entries_at es (omega (arith, many, s.some)) keep.0) keep.0 keep.1 table postings has
 
-    is : after begun.file ≡ take (at + n) bytes
-    is = subst (λ xs. Holds at xs old (after begun.file)) as_piece holds ∙ ap (λ rest. (take at old ++ piece) ++ rest) none_behind
-        ∙ append-nil (take at old ++ piece) ∙ ap (λ part. part ++ piece) has.written ∙ sym (take-add at n bytes)
-
-    len : length (after begun.file) ≡ at + n
-    len = ap length is ∙ length-take-le (at + n) bytes fits.0
-
-    short : length (after begun.file) ≤ at + n + min 163880 (length bytes - (at + n))
-    short = let e = len in grind arith
-
-    front : take (at + n) (after begun.file) ≡ take (at + n) bytes
-    front = ap (take (at + n)) is ∙ take-take (at + n) (at + n) bytes (grind arith)
+pub file_long : (len : ℕ) (bytes : List ℕ) (f : Footer) → length bytes ≤ len → 56 ≤ len → AreSections (len - 48) bytes f → length bytes ≡ len
+file_long len bytes f within long s = omega (arith, s.whole)

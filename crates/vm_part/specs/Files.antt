@@ -47,10 +47,10 @@ IsDurable begun may_leave Synced = (left : List ℕ) → may_leave begun.file le
 -- ---- opening
 
 -- why a file gives no part of so many bytes: it says which file, and where the bytes break
-abbrev pub IsFaultOf : ℕ → ℕ → List ℕ → PartFault → Type 0
-IsFaultOf file len bytes (Damaged damaged at) = (damaged ≡ file) × Breaks len bytes at
-IsFaultOf file len bytes DiskFault = ⊤
-IsFaultOf file len bytes Memory = ⊤
+abbrev pub IsFileFault : ℕ → ℕ → List ℕ → PartFault → Type 0
+IsFileFault file len bytes (Damaged damaged at) = (damaged ≡ file) × Breaks len bytes at
+IsFileFault file len bytes DiskFault = ⊤
+IsFileFault file len bytes Memory = ⊤
 
 -- what some bytes are why it is damaged
 abbrev pub IsDamage : ℕ → ℕ → PartFault → Type 0

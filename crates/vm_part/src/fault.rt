@@ -1,10 +1,11 @@
 //! Why there is no part.
 ghost use Rattle.std.specs.Prelude.{◌≡◌};
 ghost use Rattle.vm_part.specs.declared.fault.PartFault.TheVariants.{DiskFault, Memory as NoRoom};
-ghost use Rattle.vm_part.specs.declared.fault.ReadFault.TheVariants.{Memory as Unread};
+ghost use Rattle.vm_part.specs.declared.fault.ReadFault.TheVariants.{Broken as BrokenAt, Memory as Unread};
 
 use std::alloc::AllocError;
 use thiserror::Error;
+use vm_base::Broken;
 use vm_outside::Failed;
 
 /// Why bytes give no part.
@@ -21,6 +22,14 @@ impl From<AllocError> for ReadFault {
 
     fn from(_e: AllocError) -> ReadFault {
         ReadFault::Memory
+    }
+}
+
+impl From<Broken> for ReadFault {
+    ghost from_gives = { λ broken e. e ≡ BrokenAt broken.at };
+
+    fn from(e: Broken) -> ReadFault {
+        ReadFault::Broken { at: e.at }
     }
 }
 

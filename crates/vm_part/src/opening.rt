@@ -4,7 +4,7 @@ ghost use Rattle.std.specs.Prelude.{◌≡◌, ◌+◌, ◌≤◌, length, take,
 ghost use Rattle.vm_outside.specs.Disk.{Quiet};
 ghost use Rattle.vm_outside.specs.Outside.{Rose};
 ghost use Rattle.vm_outside.specs.declared.files.ReadFault.TheVariants.{Failed as NotRead};
-ghost use Rattle.vm_part.specs.Files.{IsDamage, IsFaultOf};
+ghost use Rattle.vm_part.specs.Files.{IsDamage, IsFileFault};
 ghost use Rattle.vm_part.specs.declared.fault.PartFault.TheVariants.{DiskFault as NoDisk};
 
 use crate::{MemPart, PartFault, PartReader, ReadFault};
@@ -27,7 +27,7 @@ pub fn open_part<D: Disk>(
     ensures len { IfOk result (λ reader. length reader.part.bytes ≡ len) }
     ensures part { IsTrue (D.honest disk.old) → IfOk result (λ reader. reader.part.bytes ≡ take len (D.reads disk.old file)) }
     // When the error comes.
-    ensures damaged { IsTrue (D.honest disk.old) → IfErr result (λ fault. IsFaultOf file len (take len (D.reads disk.old file)) fault) }
+    ensures damaged { IsTrue (D.honest disk.old) → IfErr result (λ fault. IsFileFault file len (take len (D.reads disk.old file)) fault) }
     ensures damage { IfErr result (λ fault. IsDamage file len fault) }
     ensures counted { D.read_faults disk.old ≤ D.read_faults disk.new }
     ensures cause { IsErrOf result PartFault.DiskFault → Rose (D.read_faults disk.old) (D.read_faults disk.new) }

@@ -15,7 +15,7 @@ use std::marker::Model;
 use std::rc::Rc;
 use vm_base::{List, Stamped};
 use vm_index::Index;
-use vm_labels::Row;
+use vm_labels::Batch;
 use vm_series::gather;
 
 /// An immutable part in memory, whole: the bytes of its file, and what they say of its series. Contracts see
@@ -58,13 +58,14 @@ impl MemPart {
     }
 
     /// The part that holds the rows of a batch, which has some and keeps the limits of an import.
-    pub fn of_batch(alloc: Global, batch: &[Row]) -> Result<MemPart, AllocError>
-        requires some { 1 ≤ length batch.now }
-        requires rows { AllByRecursion IsRow batch.now }
-        ensures { IfOk result (λ part. IsMadeOf (series_of 0 batch.now) part) }
+    pub fn of_batch(alloc: Global, batch: &Batch) -> Result<MemPart, AllocError>
+        requires some { 1 ≤ length batch.now.rows }
+        requires rows { AllByRecursion IsRow batch.now.rows }
+        ensures { IfOk result (λ part. IsMadeOf (series_of 0 batch.now.rows) part) }
     {
-        let samples = stamps(alloc, batch)?;
-        let pieces = pieces_of_rows(alloc, batch, &samples)?;
+        let rows = batch.rows.as_slice();
+        let samples = stamps(alloc, rows)?;
+        let pieces = pieces_of_rows(alloc, rows, &samples)?;
         let series = gather(alloc, pieces, 0)?;
         build(alloc, series)
     }

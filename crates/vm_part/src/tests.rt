@@ -6,7 +6,7 @@ use std::rc::Rc;
 use std::test::Fail;
 use vm_base::limits::MAX_TIME;
 use vm_base::{List, Sample, Stamped, Text};
-use vm_labels::{LabelFault, Labels, Pair, Row};
+use vm_labels::{Batch, LabelFault, Labels, Pair, Row};
 
 /// The entry of one row at 900 ms: its block is the first one.
 const ENTRY: &[u8] =
@@ -43,13 +43,13 @@ fn of_one(
     if labels.limit().is_some() || sample.time > MAX_TIME {
         return Ok(None);
     }
-    let mut rows = Vec::new(alloc);
+    let mut rows = List::new(alloc);
     rows.push(Row {
         labels,
         time: sample.time,
         value: sample.value,
     })?;
-    let part = MemPart::of_batch(alloc, &rows)?;
+    let part = MemPart::of_batch(alloc, &Batch { rows })?;
     Ok(Some(Rc::new(alloc, part)?))
 }
 

@@ -2,7 +2,7 @@ use Rattle.std.proofs.Common.{rules, ◌≡◌, ◌≢◌, ℕ, ◌+◌, length,
 use Rattle.std.proofs.lemmas.Grind.{common_steps}
 use Rattle.vm_outside.specs.Disk.{Follows, Leaves, Torn}
 use Rattle.vm_part.specs.Files.{Begun, HasWritten, next_len}
-use Rattle.vm_part.proofs.FileLaws.{leaves_step, written_more}
+use Rattle.vm_part.proofs.WritingLaws.{leaves_step, written_more}
 use Rattle.vm_part.proofs.writer.PartWriter.finish_step.Goals as goal
 
 pub returns-in_err-write-clause-any_moment : goal.returns-in_err-write-clause-any_moment
