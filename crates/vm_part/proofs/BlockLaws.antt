@@ -1,7 +1,6 @@
 -- Blocks of a series one behind the other: their samples, their bytes, and what was seen of them.
-use Rattle.std.proofs.Common.{◌≡◌, ℕ, zero, suc, ◌+◌, ◌-◌, ◌≤◌, ◌<◌, Bool, true, false, ◌&&◌, ◌||◌, not, cond, nat_le, nat_lt, ◌==◌, ℤ, pos, negsuc, ◌≤ℤ◌, List, [], ◌∷◌, ◌++◌, length, get_or, take, drop, map, flat_map, Option, Some, None, if◌then◌else◌, refl, ap, ap₂, sym, ◌∙◌, subst, ⊎_elim, arith, length-append}
+use Rattle.std.proofs.Common.{◌≡◌, ℕ, zero, suc, ◌+◌, ◌-◌, ◌≤◌, ◌<◌, Bool, true, false, ◌&&◌, ◌||◌, not, nat_le, nat_lt, ◌==◌, ℤ, pos, List, [], ◌∷◌, ◌++◌, length, get_or, take, drop, map, Option, Some, None, if◌then◌else◌, refl, ap, ap₂, sym, ◌∙◌, subst, ⊎_elim, arith, length-append}
 use Rattle.std.specs.List.{AllByRecursion, list_all, slice_get}
-use Rattle.std.specs.Ordering.{int_eq}
 use Rattle.std.proofs.Math.Seq.{take-add}
 use Rattle.std.proofs.lemmas.Bool.{and_parts, eq-eqb, eqb-true, leb-true}
 use Rattle.std.proofs.lemmas.List.{append-nil, drop-drop, drop_all, drop_more, length-drop, length-map, length-take, length-take-le, take-take}
@@ -14,7 +13,7 @@ use Rattle.vm_base.proofs.StampedLaws.{stamped_order}
 use Rattle.vm_block.specs.Block.{BreaksAt, IsBlock, scaled_by, times_of, values_of}
 use Rattle.vm_block.specs.Block.BreaksAt.{no_times, times_fall, another_end, no_mantissas, another_exponent, values_fall}
 use Rattle.vm_block.proofs.Blocks.{broken_within as column_within}
-use Rattle.vm_block.specs.Header.{IsHeader, field, field_rules, first_broken, header_bytes}
+use Rattle.vm_block.specs.Header.{field, field_rules, header_bytes}
 use Rattle.vm_block.specs.declared.header.BlockHeader.{BlockHeader}
 use Rattle.vm_block.proofs.Headers.{ranges}
 use Rattle.vm_index.proofs.ListLaws.{all_append, all_more}

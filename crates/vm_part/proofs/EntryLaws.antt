@@ -1,11 +1,11 @@
 -- Entries one by one, and what their rules say of places, rows and times.
-use Rattle.std.proofs.Common.{◌≡◌, ℕ, zero, suc, ◌+◌, ◌-◌, ◌*◌, ◌≤◌, ◌<◌, Bool, true, false, ◌&&◌, ◌||◌, not, cond, if◌then◌else◌, nat_le, nat_lt, ◌==◌, List, [], ◌∷◌, ◌++◌, length, get_or, take, map, sum, Option, Some, None, refl, ap, ap₂, sym, ◌∙◌, subst, inl, inr, append_assoc, arith}
+use Rattle.std.proofs.Common.{◌≡◌, ℕ, zero, suc, ◌+◌, ◌-◌, ◌*◌, ◌≤◌, ◌<◌, Bool, true, false, ◌&&◌, ◌||◌, cond, if◌then◌else◌, nat_le, nat_lt, ◌==◌, List, [], ◌∷◌, ◌++◌, length, get_or, take, map, sum, Option, Some, None, refl, ap, ap₂, sym, ◌∙◌, subst, inl, inr, append_assoc, arith}
 use Rattle.std.specs.List.{sum_by}
 use Rattle.std.proofs.lemmas.Bool.{and_parts, cases_eq, eq-eqb, eqb-true, leb-true, ltb-true, ne_eqb}
 use Rattle.std.proofs.lemmas.List.{take_all}
 use Rattle.std.proofs.lemmas.List.Sums.{sum-map, sum_by_more, sum_by_more_le}
 use Rattle.vm_block.specs.Header.{first_broken, is_last_time, is_time}
-use Rattle.vm_part.specs.Broken.{end_of, ends_there, entries_at, entries_rules, entry_at, entry_rules, may_start, none_without_blocks}
+use Rattle.vm_part.specs.Broken.{ends_there, entries_at, entries_rules, entry_at, entry_rules, may_start, none_without_blocks}
 use Rattle.vm_part.specs.Reading.{IsFaultOf, PlacesRise, entries_section_rules}
 use Rattle.vm_part.specs.declared.entry.Entry.{Entry}
 use Rattle.vm_part.specs.declared.fault.ReadFault.{ReadFault}

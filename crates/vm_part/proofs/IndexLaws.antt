@@ -1,5 +1,5 @@
 -- Where a label table and its postings break, and where that is in a file.
-use Rattle.std.proofs.Common.{◌≡◌, ℕ, ◌+◌, ◌-◌, ◌≤◌, Bool, true, false, cond, nat_lt, List, [], ◌∷◌, ◌++◌, length, take, drop, Option, Some, None, Result, Ok, Err, is_some, refl, ap, sym, ◌∙◌, subst, arith, length-append, w32}
+use Rattle.std.proofs.Common.{◌≡◌, ℕ, ◌+◌, ◌-◌, ◌≤◌, Bool, true, false, cond, nat_lt, List, ◌++◌, length, drop, Some, None, Result, Ok, Err, is_some, refl, ap, ◌∙◌, arith, length-append, w32}
 use Rattle.std.specs.Int.{to_be_bytes}
 use Rattle.std.proofs.lemmas.List.{length-drop, length-take-le}
 use Rattle.vm_labels.specs.Bytes.{fields_of, label_set_bytes, label_set_of, placed}

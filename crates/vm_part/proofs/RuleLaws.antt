@@ -1,5 +1,5 @@
 -- The first broken rule of some one behind the other.
-use Rattle.std.proofs.Common.{◌≡◌, ℕ, ◌≤◌, Bool, true, false, cond, List, [], ◌∷◌, ◌++◌, Option, Some, None, if◌then◌else◌, refl, ap, sym, ◌∙◌, subst}
+use Rattle.std.proofs.Common.{◌≡◌, ℕ, ◌≤◌, Bool, true, false, cond, List, [], ◌∷◌, ◌++◌, Some, None, refl, subst}
 use Rattle.std.specs.List.{AllByRecursion}
 use Rattle.vm_block.specs.Header.{first_broken}
 

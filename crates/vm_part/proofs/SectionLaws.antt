@@ -1,10 +1,10 @@
 -- The rules of the front and the footer, and the sections that they leave.
-use Rattle.std.proofs.Common.{◌≡◌, ℕ, ◌+◌, ◌-◌, ◌*◌, ◌%◌, ◌≤◌, ◌<◌, Bool, true, false, ◌&&◌, List, [], ◌∷◌, length, take, Some, None, nat_le, nat_lt, ◌==◌, refl, ap, sym, ◌∙◌, arith}
+use Rattle.std.proofs.Common.{◌≡◌, ℕ, ◌+◌, ◌-◌, ◌*◌, ◌%◌, ◌≤◌, Bool, true, false, ◌&&◌, List, [], ◌∷◌, length, Some, None, nat_le, nat_lt, ◌==◌, refl, arith}
 use Rattle.std.specs.Prelude.{bytes_eq}
 use Rattle.std.proofs.lemmas.Bool.{and_parts, eqb-true, leb-true, ltb-true}
 use Rattle.std.proofs.lemmas.Slice.Eq.{bytes_eq-Decides}
 use Rattle.vm_block.specs.Header.{field, first_broken}
-use Rattle.vm_part.specs.Broken.{footer_at, footer_rules, is_whole, number_at}
+use Rattle.vm_part.specs.Broken.{footer_at, is_whole, number_at}
 use Rattle.vm_part.specs.Part.{end_mark, front_mark}
 use Rattle.vm_part.specs.Reading.{AreSections, front_rules, has_mark, is_entries_place, is_postings_place, is_series_count, is_table_place}
 use Rattle.vm_part.specs.declared.footer.Footer.{Footer}

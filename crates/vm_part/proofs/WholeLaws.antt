@@ -1,27 +1,26 @@
 -- A file of which each section was read is the part of its series.
-use Rattle.std.proofs.Common.{◌≡◌, ℕ, zero, suc, ◌+◌, ◌-◌, ◌*◌, ◌^◌, ◌≤◌, ◌<◌, ◌==◌, Bool, true, List, [], ◌∷◌, ◌++◌, length, get_or, take, drop, map, flat_map, sum, Option, Some, None, refl, ap, ap₂, sym, ◌∙◌, subst, inl, inr, append_assoc, arith, length-append, w64}
-use Rattle.std.specs.Int.{from_be_bytes, to_be_bytes}
+use Rattle.std.proofs.Common.{◌≡◌, ℕ, zero, suc, ◌+◌, ◌-◌, ◌*◌, ◌≤◌, List, [], ◌∷◌, ◌++◌, length, take, drop, map, flat_map, sum, Option, Some, None, refl, ap, ap₂, sym, ◌∙◌, subst, inl, inr, append_assoc, arith, length-append, w64}
+use Rattle.std.specs.Int.{to_be_bytes}
 use Rattle.std.specs.List.{AllByRecursion, sum_by}
 use Rattle.std.proofs.lemmas.Bool.{cases_lt}
 use Rattle.std.proofs.lemmas.List.{drop-drop, get_or-drop, get_or-take, get_or_past, length-drop, length-map, length-take-le, take-append-drop, take_all}
 use Rattle.std.proofs.lemmas.List.Sums.{sum-map, sum_by-cons}
 use Rattle.std.proofs.lemmas.Nat.{be_bytes_8}
-use Rattle.vm_base.specs.Sorted.{last_of}
 use Rattle.vm_block.specs.Header.{field}
 use Rattle.vm_index.specs.Bytes.{postings_bytes, table_bytes}
 use Rattle.vm_index.specs.Index.{AreSets, postings_of}
 use Rattle.vm_index.specs.Reading.{IsTable}
 use Rattle.vm_index.proofs.ReadLaws.{IsBytes}
 use Rattle.vm_labels.specs.declared.pair.Pair.{Pair}
-use Rattle.vm_part.specs.Broken.{SeriesStands, end_of, entries_at, entry_at, footer_at, number_at, postings_in, table_in}
-use Rattle.vm_part.specs.Part.{AreStored, Block, IsPart, IsStored, Stored, blocks_bytes, end_mark, entries, entries_from, entries_of, entry_bytes, entry_of, first_of, footer, front, front_mark, image, postings, samples_in, samples_of, sets_of, table, time_of}
-use Rattle.vm_part.specs.Reading.{AllStand, AreSections, HasAllBlocks, PlacesRise}
+use Rattle.vm_part.specs.Broken.{SeriesStands, end_of, entries_at, footer_at, number_at, postings_in, table_in}
+use Rattle.vm_part.specs.Part.{Block, IsStored, Stored, blocks_bytes, entries, entries_from, entry_bytes, entry_of, footer, front, front_mark, image, postings, samples_in, samples_of, sets_of, table}
+use Rattle.vm_part.specs.Reading.{AllStand, AreSections, HasAllBlocks}
 use Rattle.vm_part.specs.Reading.AllStand.{none, next}
 use Rattle.vm_part.specs.Said.{Says}
 use Rattle.vm_part.specs.declared.entry.Entry.{Entry}
 use Rattle.vm_part.specs.declared.footer.Footer.{Footer}
 use Rattle.vm_part.proofs.BlockLaws.{split_field, stand_blocks, stand_order, stand_whole}
-use Rattle.vm_part.proofs.EntryLaws.{AllKeep, Keeps, ends_last, follows, no_time, places_rise}
+use Rattle.vm_part.proofs.EntryLaws.{AllKeep, ends_last, follows, no_time, places_rise}
 
 -- ---- one series
 

@@ -1,14 +1,13 @@
 -- What a reader of a part finds, section by section. Only private functions cite it.
-use Rattle.std.specs.Prelude.{◌≡◌, ◌⊎◌, ℕ, suc, ◌+◌, ◌-◌, ◌*◌, ◌%◌, ◌<◌, ◌≤◌, ◌==◌, ◌&&◌, ◌||◌, nat_le, nat_lt, not, sum, Bool, true, false, List, [], ◌∷◌, ◌++◌, length, map, take, drop, bytes_eq, Option, Some, None, if◌then◌else◌, ⊤}
+use Rattle.std.specs.Prelude.{◌≡◌, ◌⊎◌, ℕ, suc, ◌+◌, ◌-◌, ◌*◌, ◌%◌, ◌<◌, ◌≤◌, ◌==◌, ◌&&◌, ◌||◌, nat_le, nat_lt, not, sum, Bool, true, List, [], ◌∷◌, ◌++◌, length, map, take, bytes_eq, Some, None, if◌then◌else◌, ⊤}
 use Rattle.vm_base.specs.Sorted.{last_of}
-use Rattle.vm_base.specs.declared.stamped.Stamped.{Stamped}
 use Rattle.vm_block.specs.Block.{BreaksAt, IsBlock}
 use Rattle.vm_block.specs.Header.{IsHeader, field, field_rules, first_broken, header_bytes}
 use Rattle.vm_block.specs.declared.header.BlockHeader.{BlockHeader}
-use Rattle.vm_part.specs.Broken.{BreaksBehind, SeriesBreaks, SeriesStands, SomeBreaks, Stand, end_of, entries_at, entries_rules, first_sample, footer_rules, is_whole, may_follow, number_at, postings_in, table_in}
+use Rattle.vm_part.specs.Broken.{BreaksBehind, SeriesBreaks, SeriesStands, SomeBreaks, end_of, entries_at, entries_rules, first_sample, footer_rules, is_whole, may_follow, number_at, postings_in, table_in}
 use Rattle.vm_index.specs.Reading.{IsRefused}
 use Rattle.vm_index.specs.declared.fault.IndexFault.TheVariants.{BrokenTable, BrokenPostings}
-use Rattle.vm_part.specs.Part.{Block, block_bytes, blocks_bytes, end_mark, front_mark, samples_in}
+use Rattle.vm_part.specs.Part.{Block, block_bytes, end_mark, front_mark, samples_in}
 use Rattle.vm_part.specs.declared.blocks.Seen.{Seen}
 use Rattle.vm_part.specs.declared.entry.Entry.{Entry}
 use Rattle.vm_part.specs.declared.fault.ReadFault.{ReadFault}

@@ -7,6 +7,12 @@ ghost use Rattle.vm_part.specs.Reading.{AreSections, front_rules, is_entries_pla
 use crate::fields::{check, has_mark, read_number};
 use vm_base::Broken;
 
+/// The word at the front of a file.
+pub(crate) const FRONT_MARK: &[u8; 8] = b"VMDPART1";
+
+/// The word at the end of a file.
+pub(crate) const END_MARK: &[u8; 8] = b"VMDPEND1";
+
 /// The numbers of a part's footer.
 #[derive(Clone, Copy, Debug, PartialEq, Eq)]
 pub(crate) struct Footer {
@@ -32,13 +38,13 @@ pub(crate) fn read_footer(len: u64, bytes: &[u8]) -> Result<Footer, Broken>
     ensures broken { IfErr result (λ e. first_broken (front_rules (len - 48) bytes.now) ≡ Some e.at) }
 {
     let at = len - 48;
-    check(has_mark(bytes, 0, b"VMDPART1"), 0)?;
+    check(has_mark(bytes, 0, FRONT_MARK), 0)?;
     let entries_at = read_entries_at(bytes, at)?;
     let table_at = read_table_at(bytes, at, entries_at)?;
     let postings_at = read_postings_at(bytes, at, table_at)?;
     let series = read_series(bytes, at, entries_at, table_at)?;
     let rows = read_number(bytes, at + 32)?;
-    check(has_mark(bytes, at + 40, b"VMDPEND1"), at + 40)?;
+    check(has_mark(bytes, at + 40, END_MARK), at + 40)?;
     Ok(Footer {
         entries_at,
         table_at,

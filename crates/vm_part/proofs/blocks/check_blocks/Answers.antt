@@ -1,5 +1,5 @@
 -- One series more, or the first that breaks.
-use Rattle.std.proofs.Common.{◌+◌, get_or, arith}
+use Rattle.std.proofs.Common.{get_or, arith}
 use Rattle.std.proofs.lemmas.List.{get_or_default}
 use Rattle.std.proofs.lemmas.Result.{err_from_is_err_and}
 use Rattle.vm_part.specs.declared.entry.Entry.{Entry}

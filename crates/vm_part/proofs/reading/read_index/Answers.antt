@@ -1,5 +1,5 @@
 -- Where the label table or the postings break.
-use Rattle.std.proofs.Common.{◌-◌, ◌+◌, refl, inl, inr, arith}
+use Rattle.std.proofs.Common.{refl, inl, inr, arith}
 use Rattle.vm_part.proofs.IndexLaws.{postings_place, table_place}
 use Rattle.vm_part.proofs.reading.read_index.Goals as goal
 
