@@ -21,7 +21,7 @@ pub record Begun : Type 0 where
   pub part : Kept
   pub done : ℕ
 
--- how many bytes the next write puts: at most four of the longest blocks, or all that are left
+-- how many bytes the next write puts: as many as the longest block has, or all that are left
 abbrev pub next_len : Begun → ℕ
 next_len begun = min 163880 (length begun.part.bytes - begun.done)
 

@@ -6,7 +6,7 @@ ghost use Rattle.vm_index.specs.Index.{AreSets};
 ghost use Rattle.vm_part.specs.Making.{ArePut, AreSamples, IsPut, IsWritable, summed, with_sections};
 ghost use Rattle.vm_part.specs.Said.{CanBeStored, IsMadeOf};
 
-use crate::footer::Footer;
+use crate::footer::{FRONT_MARK, Footer};
 use crate::numbers::{put_entries, put_footer};
 use crate::{Entry, MemPart};
 use std::alloc::{AllocError, Global};
@@ -15,9 +15,6 @@ use vm_block::{cut, encode_block};
 use vm_index::Index;
 use vm_labels::Labels;
 use vm_series::Series;
-
-/// The word at the front of a file.
-const FRONT_MARK: &[u8; 8] = b"VMDPART1";
 
 /// The part that holds these series, which rise in label order, keep the limits of an import and have some
 /// samples each, in order.

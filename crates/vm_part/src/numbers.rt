@@ -6,11 +6,8 @@ ghost use Rattle.vm_part.specs.Making.{footer_bytes};
 ghost use Rattle.vm_part.specs.Part.{entry_bytes};
 
 use crate::Entry;
-use crate::footer::Footer;
+use crate::footer::{END_MARK, Footer};
 use std::alloc::AllocError;
-
-/// The word at the end of a file.
-const END_MARK: &[u8; 8] = b"VMDPEND1";
 
 /// Appends an entry for each series.
 pub(crate) fn put_entries(out: &mut Vec<u8>, entries: &[Entry]) -> Result<(), AllocError>

@@ -12,7 +12,7 @@ use std::marker::Model;
 use std::rc::Rc;
 use vm_outside::{Disk, Failed};
 
-/// How many bytes one write puts at most.
+/// How many bytes one write puts at most: as many as the longest block has.
 const PIECE: usize = 163_880;
 
 /// How many bytes a part in a file has at most.
