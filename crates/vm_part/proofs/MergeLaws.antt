@@ -1,17 +1,15 @@
 -- The rows of parts, and the pieces that are made of them.
-use Rattle.std.proofs.Common.{◌≡◌, ℕ, zero, suc, ◌+◌, ◌-◌, ◌^◌, ◌<◌, ◌≤◌, ◌&&◌, ◌||◌, nat_lt, int_le, int_lt, ℤ, pos, Bool, true, false, List, [], ◌∷◌, ◌++◌, length, get_or, take, drop, map, flat_map, slice_get, Option, Some, None, refl, sym, ap, ap₂, ◌∙◌, subst, arith, append_assoc, append-nil, length-append, Global}
+use Rattle.std.proofs.Common.{◌≡◌, ℕ, zero, suc, ◌+◌, ◌^◌, ◌<◌, ◌≤◌, ◌&&◌, ◌||◌, nat_lt, int_le, int_lt, ℤ, pos, Bool, true, false, List, [], ◌∷◌, ◌++◌, length, get_or, take, drop, map, flat_map, slice_get, Some, None, refl, sym, ap, ap₂, ◌∙◌, subst, arith, append_assoc, append-nil, length-append, Global}
 use Rattle.std.specs.List.{AllByRecursion, AllZip, list_any}
-use Rattle.std.specs.Prelude.{⊤}
 use Rattle.std.proofs.lemmas.Bool.{and_parts}
 use Rattle.std.proofs.lemmas.Bool.Decides.{nat_tests}
 use Rattle.std.proofs.lemmas.Int.{ints}
-use Rattle.std.proofs.lemmas.List.{length-map, map-append, take_more, take_all}
+use Rattle.std.proofs.lemmas.List.{length-map, map-append, take_more}
 use Rattle.std.proofs.lemmas.List.Concat.{flat_map-append}
-use Rattle.std.proofs.lemmas.Option.{slice_get_within}
 use Rattle.vm_base.specs.declared.stamped.Stamped.{Stamped}
 use Rattle.vm_block.specs.Block.{IsBlock, rise_from, times_of}
 use Rattle.vm_dedup.specs.Visible.{stamped}
-use Rattle.vm_index.proofs.ListLaws.{all_append, all_more}
+use Rattle.vm_index.proofs.ListLaws.{all_append}
 use Rattle.vm_labels.specs.Bytes.{HasBytes}
 use Rattle.vm_labels.specs.Labels.{limit_of}
 use Rattle.vm_labels.specs.declared.pair.Pair.{Pair}
@@ -19,7 +17,7 @@ use Rattle.vm_labels.specs.declared.row.Row.{Row}
 use Rattle.vm_series.specs.Series.{row_of, rows_of_piece}
 use Rattle.vm_series.specs.declared.series.Piece.{Piece}
 use Rattle.vm_part.specs.Merging.{AreRead, SaysAll, rows_beside}
-use Rattle.vm_part.specs.Part.{AreStored, Block, IsPart, IsStored, Stored, entries_of, samples_in, samples_of, sets_of}
+use Rattle.vm_part.specs.Part.{Block, IsStored, Stored, samples_in, samples_of, sets_of}
 use Rattle.vm_part.specs.Said.{Hold, IsRow, Kept, Says, rows_in, rows_of}
 use Rattle.vm_part.specs.Said.Hold.{none, next}
 use Rattle.std.specs.declared.rc.Rc.{Rc}

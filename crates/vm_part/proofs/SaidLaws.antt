@@ -1,7 +1,7 @@
 -- What a part in memory keeps is as much as its series.
-use Rattle.std.proofs.Common.{◌≡◌, ℕ, ◌+◌, ◌<◌, suc, List, [], ◌∷◌, length, map, refl, sym, ap, ◌∙◌, subst}
+use Rattle.std.proofs.Common.{◌≡◌, ℕ, ◌+◌, suc, List, [], ◌∷◌, length, refl, sym, ap, ◌∙◌}
 use Rattle.std.proofs.lemmas.List.{length-map}
-use Rattle.vm_part.specs.Part.{Stored, blocks_bytes, entries_from, entries_of, sets_of}
+use Rattle.vm_part.specs.Part.{Stored, blocks_bytes, entries_from}
 use Rattle.vm_part.specs.Said.{Kept, Says}
 
 entries_from-many : (start : ℕ) (all : List Stored) → length (entries_from start all) ≡ length all

@@ -53,60 +53,65 @@ fn of_one(
     Ok(Some(Rc::new(alloc, part)?))
 }
 
-/// What is seen of the parts, where one has a row.
-fn merged(
+/// Whether the bytes are those of one row of `up` at 900 ms, but for its block.
+fn is_due(image: &[u8]) -> bool {
+    image.len() == 194
+        && &image[..8] == b"VMDPART1".as_slice()
+        && &image[48..88] == ENTRY
+        && &image[146..] == FOOTER
+}
+
+/// Whether a part has these samples in its first series.
+fn has(alloc: Global, part: &MemPart, due: &[Stamped]) -> Result<bool, AllocError> {
+    if part.index().sets().is_empty() {
+        return Ok(false);
+    }
+    let samples = part.samples(alloc, 0)?;
+    Ok(samples.as_slice() == due && part.rows() == due.len() as u64)
+}
+
+/// Whether the parts, of which one has a row, are merged into a part that has these samples.
+fn merge_into(
     alloc: Global,
     parts: &[Rc<MemPart>],
     interval: u64,
-) -> Result<Option<MemPart>, AllocError> {
-    if parts.iter().any(|part| part.rows() > 0) {
-        return Ok(Some(MemPart::of_parts(alloc, parts, interval)?));
+    due: &[Stamped],
+) -> Result<bool, AllocError> {
+    if !parts.iter().any(|part| part.rows() > 0) {
+        return Ok(false);
     }
-    Ok(None)
+    let part = MemPart::of_parts(alloc, parts, interval)?;
+    has(alloc, &part, due)
 }
 
-/// The samples of a part's first series.
-fn first_series(alloc: Global, part: &MemPart) -> Result<List<Stamped>, AllocError> {
-    if part.index().sets().is_empty() {
-        return Ok(List::new(alloc));
+/// Parts of one row each.
+fn two_parts(alloc: Global) -> Result<List<Rc<MemPart>>, LabelFault> {
+    let mut parts = List::new(alloc);
+    if let Some(part) = of_one(alloc, up(alloc)?, at(1005, 2))? {
+        parts.push(part)?;
     }
-    part.samples(alloc, 0)
+    if let Some(part) = of_one(alloc, up(alloc)?, at(1001, 1))? {
+        parts.push(part)?;
+    }
+    Ok(parts)
 }
 
 #[test]
 fn one_row_is_a_part(rt: HostRuntime) -> Result<(), Fail> {
-    let Some(part) = of_one(rt.alloc(), up(rt.alloc())?, at(900, 1))? else {
-        panic!(rt; "the row keeps the limits");
-    };
-    let image = part.image();
-    assert_eq!(rt; image.len(), 194);
-    assert!(rt; &image[..8] == b"VMDPART1".as_slice());
-    assert!(rt; &image[48..88] == ENTRY);
-    assert!(rt; &image[146..] == FOOTER);
-    assert_eq!(rt; part.rows(), 1);
-    let samples = first_series(rt.alloc(), &part)?;
-    assert_eq!(rt; samples.as_slice(), [at(900, 1)].as_slice());
+    match of_one(rt.alloc(), up(rt.alloc())?, at(900, 1))? {
+        Some(part) => {
+            assert!(rt; is_due(part.image()));
+            assert!(rt; has(rt.alloc(), &part, &[at(900, 1)])?);
+        }
+        None => assert!(rt; false),
+    }
     Ok(())
 }
 
 #[test]
 fn parts_are_merged(rt: HostRuntime) -> Result<(), Fail> {
-    let mut parts = Vec::new(rt.alloc());
-    for sample in [at(1005, 2), at(1001, 1)] {
-        if let Some(part) = of_one(rt.alloc(), up(rt.alloc())?, sample)? {
-            parts.push(part)?;
-        }
-    }
-    let (Some(whole), Some(thinned)) = (
-        merged(rt.alloc(), &parts, 0)?,
-        merged(rt.alloc(), &parts, 10)?,
-    ) else {
-        panic!(rt; "the parts have rows");
-    };
-    let samples = first_series(rt.alloc(), &whole)?;
-    assert_eq!(rt; samples.as_slice(), [at(1001, 1), at(1005, 2)].as_slice());
-    let samples = first_series(rt.alloc(), &thinned)?;
-    assert_eq!(rt; samples.as_slice(), [at(1005, 2)].as_slice());
-    assert_eq!(rt; thinned.rows(), 1);
+    let parts = two_parts(rt.alloc())?;
+    assert!(rt; merge_into(rt.alloc(), parts.as_slice(), 0, &[at(1001, 1), at(1005, 2)])?);
+    assert!(rt; merge_into(rt.alloc(), parts.as_slice(), 10, &[at(1005, 2)])?);
     Ok(())
 }

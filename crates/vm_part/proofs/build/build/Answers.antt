@@ -1,5 +1,5 @@
 -- What was written is a part of the series.
-use Rattle.std.proofs.Common.{◌≡◌, length, map, sum_by, ap, ◌∙◌, sym, subst}
+use Rattle.std.proofs.Common.{length, sum_by, ap, ◌∙◌, sym, subst}
 use Rattle.vm_part.specs.Making.{ArePut, with_sections}
 use Rattle.vm_part.specs.Said.{AreCutUp, IsMadeOf, Kept}
 use Rattle.vm_part.specs.declared.entry.Entry.{Entry}

@@ -1,5 +1,5 @@
 -- One block more, and all of them.
-use Rattle.std.proofs.Common.{◌≡◌, ◌≤◌, ◌++◌, length, take, sym, ap, ap₂, ◌∙◌, subst, arith}
+use Rattle.std.proofs.Common.{◌≡◌, ◌≤◌, ◌++◌, length, sym, ap, ap₂, ◌∙◌, subst, arith}
 use Rattle.std.proofs.lemmas.List.{take_all}
 use Rattle.vm_block.specs.Cut.{AreOneBlock, IsCut}
 use Rattle.vm_block.specs.Written.{IsWritten}

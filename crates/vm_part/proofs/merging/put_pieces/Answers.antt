@@ -1,5 +1,5 @@
 -- One piece more.
-use Rattle.std.proofs.Common.{◌≡◌, get_or, flat_map, ◌∙◌}
+use Rattle.std.proofs.Common.{flat_map, ◌∙◌}
 use Rattle.vm_series.specs.Series.{rows_of_piece}
 use Rattle.vm_part.proofs.MergeLaws.{one_piece}
 use Rattle.vm_part.proofs.merging.put_pieces.Goals as goal
