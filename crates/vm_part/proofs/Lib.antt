@@ -1,0 +1,13 @@
+mod BlockLaws
+mod BuildLaws
+mod EntryLaws
+mod FileLaws
+mod IndexLaws
+mod MergeLaws
+mod RuleLaws
+mod SaidLaws
+mod SampleLaws
+mod SectionLaws
+mod SeriesFacts
+mod WholeLaws
+mod WritingLaws

@@ -1,0 +1,123 @@
+//! A part on its way into a file.
+
+ghost use Rattle.std.specs.Prelude.{◌≡◌, ◌≢◌, ℕ, ◌+◌, ◌^◌, ◌≤◌, length, IfOk, OnErr, IsTrue};
+ghost use Rattle.vm_outside.specs.Disk.{Follows, Leaves, Torn};
+ghost use Rattle.vm_outside.specs.Outside.{Rose};
+ghost use Rattle.vm_part.specs.Files.{HasWritten, IsDurable, IsStep, next_len};
+
+use crate::{MemPart, PartReader};
+use std::alloc::AllocError;
+use std::cmp::min;
+use std::marker::Model;
+use std::rc::Rc;
+use vm_outside::{Disk, Failed};
+
+/// How many bytes one write puts at most: as many as the longest block has.
+const PIECE: usize = 163_880;
+
+/// How many bytes a part in a file has at most.
+const MAX_FILE: usize = 1 << 61;
+
+/// What a step of writing did.
+#[derive(Clone, Copy, Debug, PartialEq, Eq)]
+pub enum Writing {
+    /// It wrote some bytes.
+    More,
+    /// All bytes were written before, and it synced the file.
+    Synced,
+}
+
+/// A part on its way into a file, and how far it came. Contracts see the file's number, the part, and how
+/// many of its bytes were written.
+///
+/// Make steps until one answers `Synced`. Each step is one call on the disk, so other work can be done between
+/// two.
+#[derive(Debug, Drop)]
+pub struct PartWriter {
+    file: u64,
+    part: Rc<MemPart>,
+    /// How many bytes were written.
+    done: usize,
+}
+
+impl Model for PartWriter {
+    ghost use Rattle.std.specs.Prelude.{◌≤◌, ◌^◌, length};
+    ghost use Rattle.vm_part.specs.Files.{Begun};
+
+    ghost Value = { Begun };
+
+    ghost view = { λ writer. record { file = writer.file; part = writer.part.value; done = writer.done } };
+
+    ghost invariant = { λ writer. (writer.done ≤ length writer.part.value.bytes) × (length writer.part.value.bytes ≤ 2 ^ 61) };
+}
+
+impl PartWriter {
+    /// Begins to write a part into a file, of which nothing is written yet. A part of more than 2^61 bytes is
+    /// answered as want of memory.
+    pub fn begin_image(file: u64, part: Rc<MemPart>) -> Result<PartWriter, AllocError>
+        ensures { IfOk result (λ begun. begun ≡ record { file = file; part = part.value; done = 0 }) }
+    {
+        if part.image().len() > MAX_FILE {
+            return Err(AllocError);
+        }
+        Ok(PartWriter {
+            file,
+            part,
+            done: 0,
+        })
+    }
+
+    /// Writes the next 163,880 bytes of the part, or all that are left where these are fewer. Where none are
+    /// left it syncs the file. The file is one into which this writer alone writes, empty at the beginning.
+    ///
+    /// After an error the writer is unchanged, and the same call may be made again.
+    pub fn finish_step<D: Disk>(&mut self, disk: &mut D) -> Result<Writing, Failed>
+        requires written { IsTrue (D.honest disk.old) → HasWritten self.old (D.reads disk.old) }
+        // What `Ok` holds, and what an error leaves.
+        ensures step { IfOk result (λ writing. IsStep self.old self.new writing) }
+        ensures durable { IsTrue (D.honest disk.old) → IfOk result (λ writing. IsDurable self.old (D.may_leave disk.new) writing) }
+        ensures unchanged { OnErr result (self.new ≡ self.old) }
+        ensures written { IsTrue (D.honest disk.old) → HasWritten self.new (D.reads disk.new) }
+        // What stays.
+        ensures honest { D.honest disk.new ≡ D.honest disk.old }
+        ensures others { IsTrue (D.honest disk.old) → (other : ℕ) → other ≢ self.old.file
+            → D.reads disk.new other ≡ D.reads disk.old other }
+        ensures bytes_read { IsTrue (D.honest disk.old) → D.bytes_read disk.new ≡ D.bytes_read disk.old }
+        ensures read_faults { D.read_faults disk.new ≡ D.read_faults disk.old }
+        // At each moment.
+        ensures crash { Follows self.old.file (Torn self.old.done (next_len self.old)) (D.may_leave disk.old) (D.may_leave disk.new) }
+        ensures any_moment { Leaves D.moment D.left_since disk.old disk.new
+            (λ image. Follows self.old.file (Torn self.old.done (next_len self.old)) (D.may_leave disk.old) (λ f left. left ≡ image f)) }
+        ensures one_call { D.moment disk.new ≤ D.moment disk.old + 1 }
+        // When the error comes.
+        ensures counted { D.write_faults disk.old ≤ D.write_faults disk.new }
+        ensures cause { OnErr result (Rose (D.write_faults disk.old) (D.write_faults disk.new)) }
+    {
+        let bytes = self.part.image();
+        let len = min(PIECE, bytes.len() - self.done);
+        if len == 0 {
+            disk.sync(self.file)?;
+            return Ok(Writing::Synced);
+        }
+        let piece = &bytes[self.done..self.done + len];
+        disk.write(self.file, self.done as u64, piece)?;
+        self.done += len;
+        Ok(Writing::More)
+    }
+
+    /// The length of the part's file, in bytes.
+    pub fn len(&self) -> u64
+        ensures { result ≡ length self.now.part.bytes }
+    {
+        self.part.image().len() as u64
+    }
+
+    /// The part in its file, once all was written and synced.
+    pub fn into_reader(self) -> PartReader
+        requires { next_len self ≡ 0 }
+        ensures { result ≡ record { file = self.file; part = self.part } }
+    {
+        let PartWriter { file, part, .. } = self;
+        PartReader::new(file, part)
+    }
+}
