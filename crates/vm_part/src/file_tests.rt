@@ -92,8 +92,19 @@ const FORTY_END: usize = 5558;
 
 const FORTY_SUM: u32 = 2725799748;
 
-/// The length and the sum of that part.
-const FORTY: (usize, u32) = (5606, 1053832586);
+/// The sum of that part.
+const FORTY: u32 = 1053832586;
+
+/// Files, how long they should be, and their faults: calls that fail, one byte too few and too many, too few for any
+/// part, and a file that isn't there.
+const FAULTS: [(u64, u64, PartFault); 6] = [
+    (7, 194, PartFault::DiskFault),
+    (7, 194, PartFault::DiskFault),
+    (7, 195, PartFault::Damaged { file: 7, at: 147 }),
+    (7, 193, PartFault::Damaged { file: 7, at: 145 }),
+    (7, 55, PartFault::Damaged { file: 7, at: 0 }),
+    (8, 194, PartFault::Damaged { file: 8, at: 0 }),
+];
 
 /// One sum for many numbers.
 fn sum_on(sum: u32, number: u64) -> u32 {
@@ -173,7 +184,7 @@ fn row(alloc: Global, value: &str, time: u64, m: i64) -> Result<Row, LabelFault>
 }
 
 /// Forty series with a sample each, their numbers as values of a label.
-fn forty(alloc: Global) -> Result<MemPart, Fail> {
+fn forty(alloc: Global) -> Result<MemPart, LabelFault> {
     let mut rows = List::new(alloc);
     for n in 0..40u64 {
         let (tens, ones) = (n / 10, n % 10);
@@ -183,46 +194,63 @@ fn forty(alloc: Global) -> Result<MemPart, Fail> {
     Ok(part_of(alloc, rows)?)
 }
 
-#[test]
-fn a_row_is_these_bytes(rt: HostRuntime) -> Result<(), Fail> {
-    let alloc = rt.alloc();
+/// The part of `up` with the value 1 at 900 ms.
+fn up(alloc: Global) -> Result<MemPart, LabelFault> {
     let mut rows = List::new(alloc);
     rows.push(Row {
         labels: labels(alloc, &[("__name__", "up")])?,
         time: 900,
         value: Sample::of(1, 0).unwrap_or(Sample::ZERO),
     })?;
-    let part = part_of(alloc, rows)?;
-    assert_eq!(rt; part.image(), UP.as_slice());
-    assert_eq!(rt; part.rows(), 1);
+    Ok(part_of(alloc, rows)?)
+}
+
+/// The first byte that breaks at another place than it should where its lowest bit is another one.
+fn first_misplaced(alloc: Global) -> Result<Option<usize>, AllocError> {
+    for (first, last, want) in CHANGED {
+        for at in first..=last {
+            if place(alloc, UP, at, 0)? != want {
+                return Ok(Some(at));
+            }
+        }
+    }
+    Ok(None)
+}
+
+/// The first bit for which the sum of the places isn't as it should be.
+fn first_wrong_bit(alloc: Global) -> Result<Option<usize>, AllocError> {
+    for (bit, want) in CHANGED_SUMS.iter().enumerate() {
+        if sum_of_places(alloc, UP, 0, UP.len(), bit as u32)? != *want {
+            return Ok(Some(bit));
+        }
+    }
+    Ok(None)
+}
+
+#[test]
+fn a_row_is_these_bytes(rt: HostRuntime) -> Result<(), Fail> {
+    let part = up(rt.alloc())?;
+    assert!(rt; part.image() == UP.as_slice());
     Ok(())
 }
 
 #[test]
 fn each_changed_byte_breaks_at_its_place(rt: HostRuntime) -> Result<(), Fail> {
-    let alloc = rt.alloc();
-    for (first, last, want) in CHANGED {
-        for at in first..=last {
-            assert_eq!(rt; place(alloc, UP, at, 0)?, want, "byte {at}");
-        }
-    }
-    for (bit, want) in CHANGED_SUMS.iter().enumerate() {
-        let sum = sum_of_places(alloc, UP, 0, UP.len(), bit as u32)?;
-        assert_eq!(rt; sum, *want, "bit {bit}");
-    }
+    assert_eq!(rt; first_misplaced(rt.alloc())?, None);
+    assert_eq!(rt; first_wrong_bit(rt.alloc())?, None);
     Ok(())
 }
 
 #[test]
 fn the_index_of_forty_series_breaks_at_its_places(rt: HostRuntime) -> Result<(), Fail> {
-    let alloc = rt.alloc();
-    let part = forty(alloc)?;
-    let file = part.image();
-    assert_eq!(rt; (file.len(), sum_of(file)), FORTY);
-    let sum = sum_of_places(alloc, file, FORTY_TABLE, FORTY_END, 0)?;
+    let part = forty(rt.alloc())?;
+    assert_eq!(rt; sum_of(part.image()), FORTY);
+    let sum = sum_of_places(rt.alloc(), part.image(), FORTY_TABLE, FORTY_END, 0)?;
     assert_eq!(rt; sum, FORTY_SUM);
     Ok(())
 }
+
+// ---- in files
 
 /// Writes a part, with up to a hundred steps, whichever of them fail.
 fn write_out(disk: &mut MemDisk, writer: PartWriter) -> Option<PartReader>
@@ -238,65 +266,101 @@ fn write_out(disk: &mut MemDisk, writer: PartWriter) -> Option<PartReader>
     None
 }
 
-/// A part of 400 KB: 50 series whose label has 4,000 bytes.
-fn long(alloc: Global) -> Result<MemPart, Fail> {
-    let mut rows = List::new(alloc);
-    for n in 0..50u64 {
-        let mut value = String::new(alloc);
-        for _byte in 0..3990 {
-            value.push('x')?;
-        }
-        let value = format!(in alloc; "{value}{n}")?;
-        rows.push(row(alloc, value.as_str(), n, 1)?)?;
+/// A label's value of 4,000 bytes and more.
+fn long_value(alloc: Global, n: u64) -> Result<String, AllocError> {
+    let mut value = String::new(alloc);
+    for _byte in 0..4000 {
+        value.push('x')?;
     }
-    Ok(part_of(alloc, rows)?)
+    format!(in alloc; "{value}{n}")
 }
 
-/// Calls 0, 2 and 5 fail: two writes and the first sync. Each is made again.
-#[test]
-fn a_part_is_written_by_steps(rt: HostRuntime) -> Result<(), Fail> {
-    let alloc = rt.alloc();
+/// A part of 400 KB: 50 series whose label has more than 4,000 bytes.
+fn long(alloc: Global) -> Result<Rc<MemPart>, LabelFault> {
+    let mut rows = List::new(alloc);
+    for n in 0..50u64 {
+        let value = long_value(alloc, n)?;
+        rows.push(row(alloc, value.as_str(), n, 1)?)?;
+    }
+    match Rc::new(alloc, part_of(alloc, rows)?) {
+        Ok(part) => Ok(part),
+        Err(_) => Err(LabelFault::Memory),
+    }
+}
+
+/// Writes a part into file 7 of a disk whose calls 0, 2 and 5 fail, two writes and the first sync, and whether
+/// it stands there then and a crash leaves it.
+fn is_written(alloc: Global, part: &Rc<MemPart>) -> Result<bool, AllocError> {
     let mut disk = MemDisk::new(alloc, Vec::from_array(alloc, [0, 2, 5])?);
-    let part = Rc::new(alloc, long(alloc)?)?;
     let writer = PartWriter::begin_image(7, part.clone()?)?;
     let len = writer.len();
-    assert_eq!(rt; len, part.image().len() as u64);
     let Some(reader) = write_out(&mut disk, writer) else {
-        panic!(rt; "it isn't written");
+        return Ok(false);
     };
-    assert_eq!(rt; disk.calls().len(), 7);
-    assert!(rt; disk.bytes(7) == part.image());
-    assert_eq!(rt; (reader.file(), reader.rows()), (7, 50));
+    if disk.calls().len() != 7 {
+        return Ok(false);
+    }
     let left = disk.unsynced(7, 7)?;
-    assert!(rt; left.may_leave(part.image()));
-    assert!(rt; !left.may_leave(&[]));
+    Ok(
+        left.may_leave(part.image())
+            && !left.may_leave(&[])
+            && disk.bytes(7) == part.image()
+            && len == part.image().len() as u64
+            && reader.file() == 7
+            && reader.rows() == 50,
+    )
+}
+
+#[test]
+fn a_part_is_written_by_steps(rt: HostRuntime) -> Result<(), Fail> {
+    let part = long(rt.alloc())?;
+    assert!(rt; is_written(rt.alloc(), &part)?);
     Ok(())
+}
+
+/// A disk whose file 7 is the part of `up`, and whose calls 2 and 4 fail.
+fn disk_of_up(alloc: Global) -> Result<MemDisk, AllocError> {
+    MemDisk::new(alloc, Vec::from_array(alloc, [2, 4])?).holding(7, UP)
+}
+
+/// Whether a file is opened as the part of `up`.
+fn opens(alloc: Global, disk: &mut MemDisk) -> bool {
+    match open_part(alloc, disk, 7, 194) {
+        Ok(reader) => {
+            reader.file() == 7
+                && reader.rows() == 1
+                && reader.index().lookup("__name__", "up").len() == 1
+        }
+        Err(_) => false,
+    }
+}
+
+/// The first of these files that doesn't have its fault.
+fn first_without_fault(alloc: Global, disk: &mut MemDisk) -> Option<usize> {
+    for (number, (file, len, want)) in FAULTS.iter().enumerate() {
+        match open_part(alloc, disk, *file, *len) {
+            Ok(_) => return Some(number),
+            Err(fault) => {
+                if fault != *want {
+                    return Some(number);
+                }
+            }
+        }
+    }
+    None
 }
 
 #[test]
 fn a_file_is_opened_or_damaged(rt: HostRuntime) -> Result<(), Fail> {
-    let alloc = rt.alloc();
-    let mut disk = MemDisk::new(alloc, Vec::from_array(alloc, [2, 4])?).holding(7, UP)?;
-    let reader = match open_part(alloc, &mut disk, 7, 194) {
-        Ok(reader) => reader,
-        Err(fault) => panic!(rt; "{fault}"),
-    };
-    assert_eq!(rt; (reader.file(), reader.rows()), (7, 1));
-    assert_eq!(rt; reader.index().lookup("__name__", "up"), [0].as_slice());
-    for (file, len, want) in [
-        (7, 194, PartFault::DiskFault),
-        (7, 194, PartFault::DiskFault),
-        (7, 195, PartFault::Damaged { file: 7, at: 147 }),
-        (7, 193, PartFault::Damaged { file: 7, at: 145 }),
-        (7, 55, PartFault::Damaged { file: 7, at: 0 }),
-        (8, 194, PartFault::Damaged { file: 8, at: 0 }),
-    ] {
-        match open_part(alloc, &mut disk, file, len) {
-            Ok(_) => panic!(rt; "file {file} is opened"),
-            Err(fault) => assert_eq!(rt; fault, want),
-        }
-    }
-    let told = format!(in alloc; "{}", PartFault::Damaged { file: 7, at: 147 })?;
-    assert_eq!(rt; told.as_str(), "file 7 is damaged at byte 147");
+    let mut disk = disk_of_up(rt.alloc())?;
+    assert!(rt; opens(rt.alloc(), &mut disk));
+    assert_eq!(rt; first_without_fault(rt.alloc(), &mut disk), None);
+    Ok(())
+}
+
+#[test]
+fn a_fault_names_its_place(rt: HostRuntime) -> Result<(), Fail> {
+    let told = format!(in rt.alloc(); "{}", PartFault::Damaged { file: 7, at: 147 })?;
+    assert!(rt; told.as_str() == "file 7 is damaged at byte 147");
     Ok(())
 }
