@@ -1,9 +1,9 @@
 -- Writing a part piece by piece: what stands in its file, and what a crash may leave of it.
-use Rattle.std.proofs.Common.{◌≡◌, ◌≢◌, ◌⊎◌, ℕ, ◌+◌, ◌-◌, ◌<◌, ◌≤◌, min, max, List, [], ◌∷◌, ◌++◌, length, take, drop, inl, inr, refl, sym, ap, ◌∙◌, subst, arith}
+use Rattle.std.proofs.Common.{◌≡◌, ◌⊎◌, ℕ, ◌+◌, ◌-◌, ◌≤◌, min, List, [], ◌++◌, length, take, drop, inl, inr, sym, ap, ◌∙◌, subst, arith}
 use Rattle.std.proofs.Math.Seq.{take-add}
 use Rattle.std.proofs.lemmas.List.{append-nil, drop_all, length-drop, length-take-le, take-take}
-use Rattle.vm_outside.specs.Disk.{Each, Elapses, Follows, Holds, Image, Leaves, NoMore, Torn}
-use Rattle.vm_part.specs.Files.{Begun, HasWritten, next_len, written_on}
+use Rattle.vm_outside.specs.Disk.{Each, Elapses, Follows, Holds, Image, Leaves}
+use Rattle.vm_part.specs.Files.{Begun, HasWritten, next_len}
 
 -- a call after which a crash may leave what follows from what it might have left before
 pub leaves_step : {D : Type 0} (moment : D → ℕ) (left_since : D → ℕ → Image → Type 0) (may_leave : D → ℕ → List ℕ → Type 0) (old new : D)

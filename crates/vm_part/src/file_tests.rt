@@ -108,7 +108,8 @@ const FAULTS: [(u64, u64, PartFault); 6] = [
 
 /// One sum for many numbers.
 fn sum_on(sum: u32, number: u64) -> u32 {
-    sum.wrapping_mul(31).wrapping_add(number as u32)
+    let number = u32::try_from(number).unwrap_or(u32::MAX);
+    sum.wrapping_mul(31).wrapping_add(number)
 }
 
 /// The label set of these names and values.
@@ -127,7 +128,7 @@ fn labels(alloc: Global, pairs: &[(&str, &str)]) -> Result<Labels, LabelFault> {
 fn sum_of(bytes: &[u8]) -> u32 {
     let mut sum = 0;
     for byte in bytes {
-        sum = sum_on(sum, *byte as u64);
+        sum = sum_on(sum, u64::from(*byte));
     }
     sum
 }

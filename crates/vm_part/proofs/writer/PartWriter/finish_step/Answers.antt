@@ -1,6 +1,5 @@
-use Rattle.std.proofs.Common.{rules, ◌≡◌, ◌≢◌, ℕ, ◌+◌, length, ap, subst, sym, ◌∙◌, arith}
-use Rattle.std.proofs.lemmas.Grind.{common_steps}
-use Rattle.vm_outside.specs.Disk.{Follows, Leaves, Torn}
+use Rattle.std.proofs.Common.{rules, ◌≡◌, subst, sym}
+use Rattle.vm_outside.specs.Disk.{Torn}
 use Rattle.vm_part.specs.Files.{Begun, HasWritten, next_len}
 use Rattle.vm_part.proofs.WritingLaws.{leaves_step, written_more}
 use Rattle.vm_part.proofs.writer.PartWriter.finish_step.Goals as goal
