@@ -1,12 +1,12 @@
 -- Blocks: a header and a body say one list of samples, or break.
-use Rattle.std.proofs.Common.{◌≡◌, ℕ, ◌≤◌, Bool, true, false, ℤ, pos, List, [], ◌∷◌, length, map, take, drop, refl, ap, ap₂, sym, subst, ◌∙◌, arith, length-append}
+use Rattle.std.proofs.Common.{◌≡◌, ◌⊎◌, inl, inr, ℕ, ◌+◌, ◌≤◌, Bool, true, false, ℤ, pos, List, [], ◌∷◌, length, map, take, drop, refl, ap, ap₂, sym, subst, ◌∙◌, arith, length-append}
 use Rattle.vm_base.specs.declared.stamped.Stamped.{Stamped}
 use Rattle.vm_base.specs.Sorted.{IsUp}
 use Rattle.vm_base.specs.Stamped.{is_in_order}
 use Rattle.vm_codec.specs.Coding.{IsColumn, IsBroken, spelling}
 use Rattle.vm_codec.specs.declared.coding.Coding.{Coding}
-use Rattle.vm_codec.proofs.Spellings.{one_column}
-use Rattle.vm_block.specs.Block.{times_of, values_of, rise_from, scaled_by, are_values, EndsAtLast, IsBlock, BreaksAt}
+use Rattle.vm_codec.proofs.Spellings.{one_column, one_place}
+use Rattle.vm_block.specs.Block.{times_of, values_of, rise_from, scaled_by, are_values, EndsAtLast, IsBlock, BreaksAt, SaysMantissas, SaysTimes}
 use Rattle.vm_block.specs.Block.BreaksAt.{no_times, times_fall, another_end, no_mantissas, another_exponent, values_fall}
 use Rattle.vm_block.specs.declared.header.BlockHeader.{BlockHeader}
 
@@ -82,3 +82,76 @@ moved_broken coding first one count len bytes others at first_is len_is bytes_ar
     subst (λ bs. IsBroken coding one len bs at) bytes_are
     (subst (λ n. IsBroken coding one n bytes at) len_is
     (subst (λ z. IsBroken coding z count bytes at) first_is broken))
+
+-- ---- one place
+
+-- A break, part by part: a column breaks, or it says some values and what stands behind it breaks.
+abbrev Exponent : BlockHeader → List ℤ → ℕ → Type 0
+Exponent h ms at =
+    ((are_values h.exponent (map (scaled_by h.exponent) ms) ≡ false) × (at ≡ 4))
+    ⊎ ((are_values h.exponent (map (scaled_by h.exponent) ms) ≡ true) × (at ≡ 24))
+
+abbrev Mantissas : BlockHeader → List ℕ → ℕ → Type 0
+Mantissas h body at =
+    ((place : ℕ) × IsBroken h.values h.first_m h.count (drop h.times_len body) place × (at ≡ 40 + h.times_len + place))
+    ⊎ ((ms : List ℤ) × SaysMantissas h body ms × Exponent h ms at)
+
+abbrev LastTime : BlockHeader → List ℕ → List ℤ → ℕ → Type 0
+LastTime h body times at = ((EndsAtLast h times → ⊥) × (at ≡ 16)) ⊎ (EndsAtLast h times × Mantissas h body at)
+
+abbrev Rising : BlockHeader → List ℕ → List ℤ → ℕ → Type 0
+Rising h body times at = ((rise_from (pos 0) times ≡ false) × (at ≡ 40)) ⊎ ((rise_from (pos 0) times ≡ true) × LastTime h body times at)
+
+abbrev Times : BlockHeader → List ℕ → ℕ → Type 0
+Times h body at =
+    ((place : ℕ) × IsBroken h.times (pos h.first_time) h.count (take h.times_len body) place × (at ≡ 40 + place))
+    ⊎ ((times : List ℤ) × SaysTimes h body times × Rising h body times at)
+
+by_parts : (h : BlockHeader) (body : List ℕ) (at : ℕ) → BreaksAt h body at → Times h body at
+by_parts h body at (no_times place broken is) = inl (place, broken, is)
+by_parts h body at (times_fall times says falls is) = inr (times, says, inl (falls, is))
+by_parts h body at (another_end times says rise end is) = inr (times, says, inr (rise, inl (end, is)))
+by_parts h body at (no_mantissas times says rise end place broken is) = inr (times, says, inr (rise, inr (end, inl (place, broken, is))))
+by_parts h body at (another_exponent times ms says rise end column another is) =
+    inr (times, says, inr (rise, inr (end, inr (ms, column, inl (another, is)))))
+by_parts h body at (values_fall samples ms says rise end column values exponent falls is) =
+    inr (times_of samples, says, inr (rise, inr (end, inr (ms, column, inr (ap (are_values h.exponent) (sym values) ∙ exponent, is)))))
+
+one_exponent : (h : BlockHeader) (ms : List ℤ) (p q : ℕ) → Exponent h ms p → Exponent h ms q → p ≡ q
+one_exponent h ms p q (inl a) (inl b) = a.1 ∙ sym b.1
+one_exponent h ms p q (inl a) (inr b) = absurd (clash _ b.0 a.0)
+one_exponent h ms p q (inr a) (inl b) = absurd (clash _ a.0 b.0)
+one_exponent h ms p q (inr a) (inr b) = a.1 ∙ sym b.1
+
+one_mantissas : (h : BlockHeader) (body : List ℕ) (p q : ℕ) → Mantissas h body p → Mantissas h body q → p ≡ q
+one_mantissas h body p q (inl a) (inl b) =
+    a.2 ∙ ap (λ n. 40 + h.times_len + n) (one_place h.values h.first_m h.count (drop h.times_len body) a.0 b.0 a.1 b.1) ∙ sym b.2
+one_mantissas h body p q (inl a) (inr b) = absurd (a.1.wrong b.0 b.1)
+one_mantissas h body p q (inr a) (inl b) = absurd (b.1.wrong a.0 a.1)
+one_mantissas h body p q (inr a) (inr b) =
+    one_exponent h b.0 p q (subst (λ ms. Exponent h ms p) (one_says h.values h.first_m h.count (drop h.times_len body) a.0 b.0 a.1 b.1) a.2) b.2
+
+one_last : (h : BlockHeader) (body : List ℕ) (times : List ℤ) (p q : ℕ) → LastTime h body times p → LastTime h body times q → p ≡ q
+one_last h body times p q (inl a) (inl b) = a.1 ∙ sym b.1
+one_last h body times p q (inl a) (inr b) = absurd (a.0 b.0)
+one_last h body times p q (inr a) (inl b) = absurd (b.0 a.0)
+one_last h body times p q (inr a) (inr b) = one_mantissas h body p q a.1 b.1
+
+one_rising : (h : BlockHeader) (body : List ℕ) (times : List ℤ) (p q : ℕ) → Rising h body times p → Rising h body times q → p ≡ q
+one_rising h body times p q (inl a) (inl b) = a.1 ∙ sym b.1
+one_rising h body times p q (inl a) (inr b) = absurd (clash _ b.0 a.0)
+one_rising h body times p q (inr a) (inl b) = absurd (clash _ a.0 b.0)
+one_rising h body times p q (inr a) (inr b) = one_last h body times p q a.1 b.1
+
+one_times : (h : BlockHeader) (body : List ℕ) (p q : ℕ) → Times h body p → Times h body q → p ≡ q
+one_times h body p q (inl a) (inl b) =
+    a.2 ∙ ap (λ n. 40 + n) (one_place h.times (pos h.first_time) h.count (take h.times_len body) a.0 b.0 a.1 b.1) ∙ sym b.2
+one_times h body p q (inl a) (inr b) = absurd (a.1.wrong b.0 b.1)
+one_times h body p q (inr a) (inl b) = absurd (b.1.wrong a.0 a.1)
+one_times h body p q (inr a) (inr b) =
+    one_rising h body b.0 p q
+    (subst (λ ts. Rising h body ts p) (one_says h.times (pos h.first_time) h.count (take h.times_len body) a.0 b.0 a.1 b.1) a.2) b.2
+
+-- a block breaks at one place
+pub one_break : (h : BlockHeader) (body : List ℕ) (p q : ℕ) → BreaksAt h body p → BreaksAt h body q → p ≡ q
+one_break h body p q a b = one_times h body p q (by_parts h body p a) (by_parts h body q b)

@@ -1,5 +1,5 @@
 -- Mantissas of values at an exponent that their block has.
-use Rattle.std.proofs.Common.{◌≡◌, ◌==◌, if◌then◌else◌, nat_lt, ℕ, zero, suc, ◌+◌, ◌-◌, ◌*◌, ◌^◌, ◌<◌, ◌≤◌, min, Bool, true, false, ℤ, pos, negsuc, ◌*ℤ◌, unsigned_abs, All, w64, of_z, List, [], ◌∷◌, ◌++◌, length, get_or, take, map, Option, Some, None, refl, ap, ap₂, sym, subst, ◌∙◌, inl, inr, arith, pow-add}
+use Rattle.std.proofs.Common.{◌≡◌, ◌==◌, if◌then◌else◌, nat_lt, ℕ, zero, suc, ◌+◌, ◌*◌, ◌^◌, ◌<◌, ◌≤◌, min, Bool, true, false, ℤ, pos, negsuc, ◌*ℤ◌, unsigned_abs, All, w64, of_z, List, [], ◌∷◌, ◌++◌, length, get_or, take, map, Option, Some, None, refl, ap, ap₂, sym, subst, ◌∙◌, inl, inr, arith, pow-add}
 use Rattle.std.proofs.Math.Nat.{lt_of_mul-lt-mul_right, mul_assoc, one-le-mul}
 use Rattle.std.proofs.lemmas.Bool.{cases_Bool, and_from}
 use Rattle.std.proofs.lemmas.Bool.Decides.{nat_tests}

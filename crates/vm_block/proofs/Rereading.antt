@@ -1,5 +1,5 @@
 -- What is written and what is read, for other crates' proofs too.
-use Rattle.std.proofs.Common.{◌≡◌, ℕ, zero, suc, ◌+◌, ◌-◌, ◌*◌, ◌^◌, ◌<◌, ◌≤◌, ℤ, pos, negsuc, ◌*ℤ◌, ◌+ℤ◌, neg_ℤ, unsigned_abs, List, [], ◌∷◌, ◌++◌, length, take, drop, map, slice_get, Option, Some, refl, ap, ap₂, sym, subst, ◌∙◌, arith, length-drop}
+use Rattle.std.proofs.Common.{◌≡◌, ℕ, zero, suc, ◌-◌, ◌*◌, ◌^◌, ◌<◌, ◌≤◌, ℤ, pos, negsuc, ◌*ℤ◌, ◌+ℤ◌, neg_ℤ, unsigned_abs, List, [], ◌∷◌, ◌++◌, length, take, drop, map, slice_get, Option, Some, refl, ap, ap₂, sym, subst, ◌∙◌, arith, length-drop}
 use Rattle.std.proofs.Math.Nat.{le_of_mul-le-mul_right, one-le-mul}
 use Rattle.std.proofs.lemmas.Bool.{and_parts}
 use Rattle.std.proofs.lemmas.Int.{ints}

@@ -15,7 +15,7 @@ use crate::samples::{common_shift, shift_of};
 use std::alloc::{AllocError, Global};
 use vm_base::limits::MAX_BLOCK_SAMPLES;
 use vm_base::{List, Sample, Stamped};
-use vm_codec::{Coding, MAX_COLUMN, choose, encode};
+use vm_codec::{Coding, MAX_COLUMN, MAX_INTEGER, choose, encode};
 
 /// A column that is written.
 #[derive(Debug, Drop)]
@@ -108,7 +108,7 @@ fn write_column(alloc: Global, values: &[i64]) -> Result<Column, AllocError>
     ensures len { IfOk result (λ column. length column.bytes.items ≤ MAX_COLUMN) }
 {
     let coding = choose(values);
-    let mut bytes = vec![in alloc; 0u8; MAX_COLUMN]?;
+    let mut bytes = vec![in alloc; 0u8; MAX_INTEGER * values.len()]?;
     let len = encode(coding, values, &mut bytes);
     bytes.truncate(len);
     Ok(Column { coding, bytes })

@@ -28,7 +28,7 @@ pub use encode::encode_block;
 pub use fault::BlockFault;
 pub use header::{BlockHeader, HEADER_LEN, read_header, write_header};
 pub use laws::{
-    a_block_says_one_list, samples_are_written_in_one_way, samples_have_one_cut,
-    what_is_written_is_read,
+    a_block_breaks_at_one_place, a_block_says_one_list, samples_are_written_in_one_way,
+    samples_have_one_cut, what_is_written_is_read,
 };
 pub use samples::are_one_block;

@@ -1,7 +1,8 @@
 //! Blocks and their samples, which a few lines of Python gave by the format's description.
 use crate::{
-    BlockFault, a_block_says_one_list, are_one_block, cut, decode_block, encode_block, read_header,
-    samples_are_written_in_one_way, samples_have_one_cut, what_is_written_is_read, write_header,
+    BlockFault, a_block_breaks_at_one_place, a_block_says_one_list, are_one_block, cut,
+    decode_block, encode_block, read_header, samples_are_written_in_one_way, samples_have_one_cut,
+    what_is_written_is_read, write_header,
 };
 use std::alloc::{AllocError, Global};
 use vm_base::{List, Sample, Stamped};
@@ -321,6 +322,7 @@ fn lengths_of(alloc: Global, blocks: &[List<Stamped>]) -> Result<Vec<usize>, All
 fn laws_ask_for_nothing(rt: HostRuntime) {
     samples_have_one_cut(&[]);
     samples_are_written_in_one_way();
+    a_block_breaks_at_one_place();
     let mut front = [0; 40];
     front.copy_from_slice(&BLOCK[..40]);
     let Ok(header) = read_header(&front) else {

@@ -26,4 +26,4 @@ pub use choosing::choose;
 pub use coding::Coding;
 pub use laws::{bytes_break_at_one_place, no_column_begins_another};
 pub use reading::decode;
-pub use writing::{MAX_COLUMN, encode};
+pub use writing::{MAX_COLUMN, MAX_INTEGER, encode};

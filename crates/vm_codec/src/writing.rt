@@ -11,8 +11,11 @@ use crate::reading::lean_after;
 use crate::zigzag::zigzag;
 use vm_base::limits::MAX_BLOCK_SAMPLES;
 
-/// The bytes that a column takes at most, for which `encode` wants room.
+/// The bytes that a column takes at most.
 pub const MAX_COLUMN: usize = 81_920;
+
+/// The bytes that an integer of a column takes at most. `encode` wants room for one integer a value.
+pub const MAX_INTEGER: usize = 10;
 
 /// Writes a column to the front of `into`, in the coding that `choose` gives of its values, and says
 /// how many bytes it takes. The first value is no part of them. What stands behind them stays.
@@ -23,7 +26,7 @@ pub fn encode(coding: Coding, values: &[i64], into: &mut [u8]) -> usize
     requires few { length values.now ≤ MAX_BLOCK_SAMPLES }
     requires bounds { All IsInBounds values.now }
     requires coding { coding ≡ chosen values.now }
-    requires room { length into.old ≡ MAX_COLUMN }
+    requires room { MAX_INTEGER * length values.now ≤ length into.old }
     ensures column { (first : ℤ) → slice_get values.now 0 ≡ Some first
         → IsColumn coding first (length values.now) (take result into.new) values.now }
     ensures within { result ≤ MAX_COLUMN }
@@ -42,7 +45,7 @@ fn write_differences(coding: Coding, values: &[i64], into: &mut [u8]) -> usize
     requires few { length values.now ≤ MAX_BLOCK_SAMPLES }
     requires bounds { All IsInBounds values.now }
     requires coding { (coding ≡ NearestDelta2) ⊎ (coding ≡ NearestDelta) }
-    requires room { length into.old ≡ MAX_COLUMN }
+    requires room { MAX_INTEGER * length values.now ≤ length into.old }
     ensures spelled { take result into.new ≡ spelling coding values.now }
     ensures within { result ≤ MAX_COLUMN }
     ensures rest { drop result into.new ≡ drop result into.old }

@@ -1,5 +1,5 @@
 -- A header and two columns are the block of their samples.
-use Rattle.std.proofs.Common.{◌≡◌, ◌-◌, ◌≤◌, IfOk, Ok, Err, Result, List, ℕ, pos, All, Some, slice_get, length, refl, ap, sym, subst, ◌∙◌, arith}
+use Rattle.std.proofs.Common.{◌≡◌, ◌≤◌, IfOk, Ok, Err, Result, List, ℕ, pos, All, Some, slice_get, length, refl, ap, sym, subst, ◌∙◌, arith}
 use Rattle.std.proofs.lemmas.List.{length-map}
 use Rattle.std.specs.declared.alloc.AllocError.{AllocError}
 use Rattle.vm_base.specs.declared.stamped.Stamped.{Stamped}

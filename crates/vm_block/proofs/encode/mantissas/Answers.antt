@@ -1,5 +1,5 @@
 -- One mantissa more.
-use Rattle.std.proofs.Common.{◌≡◌, ◌++◌, ◌∷◌, [], All, map, ◌+◌, ap, sym, subst, ◌∙◌, w64, rules}
+use Rattle.std.proofs.Common.{◌≡◌, ◌++◌, ◌∷◌, [], All, map, ap, sym, subst, ◌∙◌, w64, rules}
 use Rattle.std.proofs.lemmas.Int.{to_z-of_z}
 use Rattle.vm_codec.specs.Coding.{IsInBounds}
 use Rattle.vm_block.specs.Reading.{raised_by}
