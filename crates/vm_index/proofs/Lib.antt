@@ -6,4 +6,6 @@ pub mod LookupLaws
 pub mod NameLaws
 pub mod NumberLaws
 pub mod ReadLaws
+pub mod RunLaws
 pub mod SortLaws
+pub mod TableLaws

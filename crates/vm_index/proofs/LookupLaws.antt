@@ -135,7 +135,7 @@ found_none p (q ∷ qs) none = go (pair_eq p q.pair) refl (found_none p qs (λ k
         absurd (none 0 q (omega arith) (ap (λ r. pair_cmp r p) (sym ((pair_eq-Decides p q.pair).0 same)) ∙ tied_itself pair_cmp-total p))
     go false apart more = more
 
-sorted_by : (qs : List Posting) → PostingsRise qs → IsSortedBy (λ (a b : Posting). is_lt (pair_cmp a.pair b.pair)) qs
+pub sorted_by : (qs : List Posting) → PostingsRise qs → IsSortedBy (λ (a b : Posting). is_lt (pair_cmp a.pair b.pair)) qs
 sorted_by qs up k d low high =
     let first = get_or qs k d in
     let next = get_or qs (k + 1) d in

@@ -1,5 +1,5 @@
 -- The names and the values of postings are those of the label sets.
-use Rattle.std.proofs.Common.{◌≡◌, ℕ, suc, ◌+◌, ◌-◌, ◌<◌, Bool, true, false, cond, ◌&&◌, ◌||◌, List, [], ◌∷◌, ◌++◌, length, get_or, take, filter, map, Some, None, refl, sym, ap, ap₂, ◌∙◌, subst, arith}
+use Rattle.std.proofs.Common.{◌≡◌, ℕ, suc, ◌+◌, ◌-◌, ◌<◌, Bool, true, false, cond, ◌&&◌, ◌||◌, List, [], ◌∷◌, ◌++◌, length, get_or, take, filter, map, Some, None, refl, sym, ap, ◌∙◌, subst, arith}
 use Rattle.std.specs.Prelude.{bytes_eq, slice_get}
 use Rattle.std.specs.List.{AllByRecursion, list_any, dedup}
 use Rattle.std.specs.Option.{option_map_or}
@@ -9,7 +9,6 @@ use Rattle.std.specs.declared.cmp.Ordering.{Ordering}
 use Rattle.std.specs.declared.cmp.Ordering.TheVariants.{Less, Equal, Greater}
 use Rattle.std.proofs.lemmas.Cmp.{nat_list_cmp_total, tied_itself}
 use Rattle.std.proofs.lemmas.List.{map-append, take_more}
-use Rattle.std.proofs.lemmas.List.Elements.{filter_more}
 use Rattle.std.proofs.lemmas.Slice.Eq.{bytes_eq-Decides}
 use Rattle.vm_base.specs.Sorted.{IsUp, last_of}
 use Rattle.vm_labels.specs.Labels.{text_cmp, is_below, pair_cmp, pair_eq}
@@ -127,20 +126,3 @@ names_more qs i q done more within is put so_far =
         ap names (take_more qs i q within)
         ∙ map-append (λ (r : Posting). r.pair.name) (take i qs) (get_or qs i q ∷ [])
         ∙ ap (λ (r : Posting). names (take i qs) ++ r.pair.name ∷ []) (sym is)
-
-abbrev is_of : List ℕ → Posting → Bool
-is_of name q = bytes_eq q.pair.name name
-
-abbrev alone : List ℕ → Posting → List Posting
-alone name q = cond (is_of name q) (q ∷ []) []
-
-pub values_more : (name : List ℕ) (qs : List Posting) (i : ℕ) (q : Posting) (done : List (List ℕ)) → i < length qs → q ≡ get_or qs i q
-    → done ≡ values name (take i qs) → values name (take (i + 1) qs) ≡ done ++ cond (bytes_eq q.pair.name name) (q.pair.value ∷ []) []
-values_more name qs i q done within is so_far =
-    ap (map (λ (r : Posting). r.pair.value)) (filter_more (is_of name) qs i q within)
-    ∙ map-append (λ (r : Posting). r.pair.value) (filter (is_of name) (take i qs)) (alone name (get_or qs i q))
-    ∙ ap₂ ◌++◌ (sym so_far) (ap (λ r. map (λ (s : Posting). s.pair.value) (alone name r)) (sym is) ∙ each (is_of name q))
-  where
-    each : (b : Bool) → map (λ (s : Posting). s.pair.value) (cond b (q ∷ []) []) ≡ cond b (q.pair.value ∷ []) []
-    each true = refl
-    each false = refl

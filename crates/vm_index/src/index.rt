@@ -6,6 +6,7 @@ ghost use Rattle.vm_index.specs.Index.{AreSets, KeepLimits, SetsRise, ordinals_o
 ghost use Rattle.vm_index.specs.Numbers.{Rise};
 ghost use Rattle.vm_index.specs.Reading.{IsRefused, IsTable};
 ghost use Rattle.vm_index.specs.Texts.{AreTexts, is_name_in, is_value_in};
+ghost use Rattle.vm_index.specs.declared.fault.IndexFault.TheVariants.{Memory};
 
 use crate::bytes::{bytes_of, table_of};
 use crate::entries::postings_of;
@@ -43,6 +44,9 @@ impl Model for Index {
 }
 
 impl Index {
+    ghost use Rattle.std.specs.Prelude.{List};
+    ghost use Rattle.vm_labels.specs.declared.pair.Pair.{Pair};
+
     /// The index of label sets that rise and keep the limits of an import.
     pub fn build(alloc: Global, sets: List<Labels>) -> Result<Index, AllocError>
         requires rising { SetsRise sets }
@@ -75,6 +79,8 @@ impl Index {
         count: u64,
     ) -> Result<Index, IndexFault>
         ensures found { IfOk result (λ sets. IsTable count table.now sets × (postings.now ≡ postings_bytes (postings_of sets))) }
+        ensures only { (sets : List (List Pair)) → IsTable count table.now sets
+            → postings.now ≡ postings_bytes (postings_of sets) → IfErr result (λ fault. fault ≡ Memory) }
         ensures broken { IfErr result (λ fault. IsRefused count table.now postings.now fault) }
     {
         let sets = sets_of(alloc, table, count)?;

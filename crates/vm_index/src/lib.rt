@@ -16,6 +16,7 @@ mod bytes;
 mod entries;
 mod fault;
 mod index;
+mod laws;
 mod lookup;
 mod names;
 mod numbers;
@@ -26,5 +27,6 @@ mod tests;
 
 pub use fault::IndexFault;
 pub use index::Index;
+pub use laws::{a_table_breaks_at_one_place, a_table_says_one_list};
 pub use numbers::{and, minus, or};
 pub use posting::Posting;

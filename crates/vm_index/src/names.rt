@@ -2,6 +2,7 @@
 
 ghost use Rattle.std.specs.Prelude.{◌≡◌, filter, map, bytes_eq, IfOk, OnOk};
 ghost use Rattle.std.specs.List.{dedup};
+ghost use Rattle.vm_index.specs.Index.{PostingsRise};
 ghost use Rattle.vm_index.specs.Texts.{is_last, put_new};
 
 use crate::Posting;
@@ -45,13 +46,25 @@ pub(crate) fn values_of(
     postings: &[Posting],
     name: &str,
 ) -> Result<Vec<Text>, AllocError>
+    requires { PostingsRise postings.now }
     ensures { IfOk result (λ values. values.items ≡ map (λ q. q.pair.value) (filter (λ q. bytes_eq q.pair.name name.now) postings.now)) }
 {
     let mut values = Vec::new(alloc);
-    for posting in postings {
-        if posting.pair.name.as_str() == name {
-            values.push(posting.pair.value.copy(alloc)?)?;
-        }
+    let run = run_of(postings, name);
+    for posting in run {
+        values.push(posting.pair.value.copy(alloc)?)?;
     }
     Ok(values)
+}
+
+/// The postings of a name, which stand together.
+fn run_of<'a>(postings: &'a [Posting], name: &str) -> &'a [Posting]
+    requires { PostingsRise postings.now }
+    ensures { result.now ≡ filter (λ q. bytes_eq q.pair.name name.now) postings.now }
+{
+    let first = postings.partition_point(|posting| posting.pair.name.as_str() < name);
+    let (_, rest) = postings.split_at(first);
+    let len = rest.partition_point(|posting| posting.pair.name.as_str() == name);
+    let (run, _) = rest.split_at(len);
+    run
 }

@@ -196,3 +196,9 @@ fn ordinals_are_combined(rt: HostRuntime) -> Result<(), Fail> {
     assert!(rt; out.as_slice() == [1, 5].as_slice());
     Ok(())
 }
+
+#[test]
+fn laws_ask_for_nothing(rt: HostRuntime) {
+    a_table_says_one_list();
+    a_table_breaks_at_one_place();
+}

@@ -1,4 +1,4 @@
-use Rattle.std.proofs.Common.{◌+◌, ◌++◌, length, get_or, ap, ◌∙◌}
+use Rattle.std.proofs.Common.{◌++◌, length, get_or, ap, ◌∙◌}
 use Rattle.std.specs.Int.{w64, to_be_bytes}
 use Rattle.vm_index.proofs.BytesLaws.{numbers_more}
 use Rattle.vm_index.proofs.bytes.put_numbers.Goals as goal

@@ -1,4 +1,4 @@
-use Rattle.std.proofs.Common.{◌+◌, ◌++◌, map, ap, ◌∙◌}
+use Rattle.std.proofs.Common.{◌++◌, map, ap, ◌∙◌}
 use Rattle.vm_labels.specs.Labels.{IsLabels}
 use Rattle.vm_index.specs.Entries.{entries_from, seen}
 use Rattle.vm_index.proofs.ListLaws.{all_taken}

@@ -1,6 +1,6 @@
 use Rattle.std.proofs.Common.{◌+◌, ◌++◌, ◌∷◌, [], ap, ap₂, ◌∙◌, sym, subst, drop, get_or}
 use Rattle.vm_index.specs.Numbers.{Rise, merged}
-use Rattle.vm_index.proofs.NumberLaws.{merged_more, rises_above, below, above}
+use Rattle.vm_index.proofs.NumberLaws.{merged_more, rises_above}
 use Rattle.vm_index.proofs.numbers.put_all.Goals as goal
 
 pub loop-n-preserved : goal.loop-n-preserved

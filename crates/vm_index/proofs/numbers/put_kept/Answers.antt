@@ -1,6 +1,6 @@
 use Rattle.std.proofs.Common.{◌+◌, ◌++◌, ap, ap₂, ◌∙◌, sym, subst, drop, get_or}
 use Rattle.vm_index.specs.Numbers.{Rise, kept}
-use Rattle.vm_index.proofs.NumberLaws.{kept_more, kept_less, rises_above, above}
+use Rattle.vm_index.proofs.NumberLaws.{kept_more, kept_less, rises_above}
 use Rattle.vm_index.proofs.numbers.put_kept.Goals as goal
 use Rattle.vm_index.proofs.numbers.put_kept.Goals.{then-parts-among+in_ok-push, else-parts-among}
 
