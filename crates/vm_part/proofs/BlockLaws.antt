@@ -21,8 +21,8 @@ use Rattle.vm_part.specs.Broken.{BreaksBehind, SeriesBreaks, SeriesStands, SomeB
 use Rattle.vm_part.specs.Broken.BreaksBehind.{no_header, bad_header, misplaced, bad_body}
 use Rattle.vm_part.specs.Broken.SomeBreaks.{here as breaks_first, later as breaks_later}
 use Rattle.vm_part.specs.Broken.Stand.{none, next}
-use Rattle.vm_part.specs.Part.{Block, block_bytes, blocks_bytes, first_of, samples_in, time_of}
-use Rattle.vm_part.specs.Reading.{AllStand, HasAllBlocks, HasBlocks, HasHeader, IsBlockFault, IsBlocksFault, IsBodyFault, IsSeriesFault, Joins, NoHeader, PlacesRise, Saw, may_come}
+use Rattle.vm_part.specs.Part.{Block, SaysSamples, block_bytes, blocks_bytes, first_of, samples_in, time_of}
+use Rattle.vm_part.specs.Reading.{AllStand, HasAllBlocks, HasSeries, HasHeader, IsBlockFault, IsBlocksFault, IsBodyFault, IsSeriesFault, Joins, NoHeader, PlacesRise, Saw, may_come}
 use Rattle.vm_part.specs.Reading.AllStand.{none as no_series, next as series_more}
 use Rattle.vm_part.specs.declared.blocks.Seen.{Seen}
 use Rattle.vm_part.specs.declared.entry.Entry.{Entry}
@@ -238,10 +238,10 @@ stand_order room e _ (next before b stand is may) =
     (up_append (samples_in before) ends.first ends.more (stand_order room e before stand) (subst (IsUp is_in_order) ends.is is.order)
     (ap (may_follow (last_of (samples_in before))) (sym ends.sample) ∙ s.follows))
 
-pub stand_blocks : (room : ℕ) (e : Entry) (blocks : List Block) → Stand room e blocks → AllByRecursion (λ b. IsBlock b.header b.body b.samples) blocks
+pub stand_blocks : (room : ℕ) (e : Entry) (blocks : List Block) → Stand room e blocks → AllByRecursion SaysSamples blocks
 stand_blocks room e [] none = tt
 stand_blocks room e _ (next before b stand is may) =
-    all_append (λ (x : Block). IsBlock x.header x.body x.samples) before (b ∷ []) (stand_blocks room e before stand) (is, tt)
+    all_append SaysSamples before (b ∷ []) (stand_blocks room e before stand) (is, tt)
 
 -- the first time of blocks that stand is the entry's
 pub stand_first : (room : ℕ) (e : Entry) (blocks : List Block) → Stand room e blocks → 1 ≤ length blocks
@@ -380,7 +380,7 @@ series_breaks bytes entries end e at many place p seen so few breaks is =
     room : at ≡ e.start + length (blocks_bytes so.before) → end - at ≡ end - e.start - length (blocks_bytes so.before)
     room at_is = omega arith
 
-pub series_stands : (bytes : List ℕ) (end : ℕ) (e : Entry) (at many : ℕ) (seen : Seen) → SoFar bytes end e at many seen → many ≡ e.blocks → HasBlocks bytes end e
+pub series_stands : (bytes : List ℕ) (end : ℕ) (e : Entry) (at many : ℕ) (seen : Seen) → SoFar bytes end e at many seen → many ≡ e.blocks → HasSeries bytes end e
 series_stands bytes end e at many seen so all = record {
   blocks = so.before;
   stand = record { stand = so.stand; spelled = so.spelled; all = so.count ∙ all };
@@ -460,14 +460,14 @@ module _ (bytes : List ℕ) (entries : ℕ) (es : List Entry) (place : ℕ) (e :
       → (e.start ≤ end_of entries (drop (place + 1) es)) × (end_of entries (drop (place + 1) es) ≤ entries) × PlacesRise entries (drop (place + 1) es)
   rise_here rise = subst (PlacesRise entries) here rise
 
-  pub stands_here : (end : ℕ) → end ≡ end_of entries (drop (place + 1) es) → HasBlocks bytes end e
+  pub stands_here : (end : ℕ) → end ≡ end_of entries (drop (place + 1) es) → HasSeries bytes end e
       → ((others : List (List Block)) → AllStand bytes entries (drop place es) others → HasAllBlocks bytes entries es)
       → (others : List (List Block)) → AllStand bytes entries (drop (place + 1) es) others → HasAllBlocks bytes entries es
   stands_here end end_is has so_far others rest =
       so_far (has.blocks ∷ others) (subst (λ xs. AllStand bytes entries xs (has.blocks ∷ others)) (sym here)
       (series_more e (drop (place + 1) es) has.blocks others (subst (λ n. SeriesStands bytes n e has.blocks) end_is has.stand) rest))
 
-  pub later_breaks : (end : ℕ) → end ≡ end_of entries (drop (place + 1) es) → HasBlocks bytes end e
+  pub later_breaks : (end : ℕ) → end ≡ end_of entries (drop (place + 1) es) → HasSeries bytes end e
       → ((at : ℕ) → SomeBreaks bytes entries (drop place es) at → SomeBreaks bytes entries es at)
       → (at : ℕ) → SomeBreaks bytes entries (drop (place + 1) es) at → SomeBreaks bytes entries es at
   later_breaks end end_is has so_far at breaks =

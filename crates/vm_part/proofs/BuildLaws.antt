@@ -9,7 +9,6 @@ use Rattle.std.proofs.lemmas.List.Sums.{sum_by-cons}
 use Rattle.vm_base.specs.Sorted.{IsUp, last_of}
 use Rattle.vm_base.specs.Stamped.{is_in_order}
 use Rattle.vm_base.specs.declared.stamped.Stamped.{Stamped}
-use Rattle.vm_block.specs.Block.{IsBlock}
 use Rattle.vm_block.specs.Cut.{AreOneBlock, IsCut, fit_one_block, joined}
 use Rattle.vm_block.specs.Written.{IsWritten}
 use Rattle.vm_index.specs.Bytes.{postings_bytes, table_bytes}
@@ -19,7 +18,7 @@ use Rattle.vm_labels.specs.declared.pair.Pair.{Pair}
 use Rattle.vm_series.specs.Series.{HasSample, IsByTime}
 use Rattle.vm_series.specs.declared.series.Series.{Series}
 use Rattle.vm_part.specs.Making.{AreSamples, ArePut, IsPut, IsWritable, footer_bytes, summed, with_sections}
-use Rattle.vm_part.specs.Part.{Block, IsStored, Stored, block_bytes, blocks_bytes, entries, entries_from, entries_of, entry_bytes, entry_of, first_of, front, front_mark, image, samples_in, samples_of, sets_of, time_of}
+use Rattle.vm_part.specs.Part.{Block, IsStored, SaysSamples, Stored, block_bytes, blocks_bytes, entries, entries_from, entries_of, entry_bytes, entry_of, first_of, front, front_mark, image, samples_in, samples_of, series_bytes, sets_of, time_of}
 use Rattle.vm_part.specs.Said.{AreBlocks, AreCutUp, CanBeStored, InTime, Kept, Says}
 use Rattle.vm_part.specs.Said.AreCutUp.{none, next}
 use Rattle.vm_part.specs.declared.entry.Entry.{Entry}
@@ -76,9 +75,6 @@ may_be_written samples blocks i block are cut within is =
 
 -- ---- blocks that were written
 
-abbrev Say : Block → Type 0
-Say b = IsBlock b.header b.body b.samples
-
 abbrev IsWrittenSo : Block → Type 0
 IsWrittenSo b = IsWritten (block_bytes b) b.samples
 
@@ -89,7 +85,7 @@ its_samples b = b.samples
 pub record WrittenSoFar (blocks : List (List Stamped)) (before after : List ℕ) : Type 0 where
   pub all : List Block
   pub samples : map its_samples all ≡ blocks
-  pub say : AllByRecursion Say all
+  pub say : AllByRecursion SaysSamples all
   pub written : AllByRecursion IsWrittenSo all
   pub bytes : after ≡ before ++ blocks_bytes all
 
@@ -107,7 +103,7 @@ one_written blocks i block before now after bytes within is so_far written put =
           map-append its_samples so_far.all (its ∷ [])
           ∙ ap₂ (λ xs (x : List Stamped). xs ++ x ∷ []) so_far.samples is
           ∙ sym (take_more blocks i block within);
-      say = all_append Say so_far.all (its ∷ []) so_far.say (written.block, tt);
+      say = all_append SaysSamples so_far.all (its ∷ []) so_far.say (written.block, tt);
       written = all_append IsWrittenSo so_far.all (its ∷ []) so_far.written (subst (λ bs. IsWritten bs block) written.parts written, tt);
       bytes =
           put ∙ ap₂ (λ xs ys. xs ++ ys) so_far.bytes written.parts
@@ -162,9 +158,6 @@ entry_said start blocks samples c d some =
 
 -- ---- series
 
-abbrev stored_bytes : Stored → List ℕ
-stored_bytes s = blocks_bytes s.blocks
-
 pub writable : (series : List Series) → CanBeStored series → AllByRecursion IsWritable series
 writable series can = go series can.are.some can.are.ordered can.times
   where
@@ -189,13 +182,13 @@ many_cut series all none = refl
 many_cut series all (next older stored r u l a more) = ap suc (many_cut older stored more)
 
 entries-append : (start : ℕ) (all : List Stored) (s : Stored)
-    → entries_from start (all ++ s ∷ []) ≡ entries_from start all ++ entry_of (start + length (flat_map stored_bytes all)) s ∷ []
+    → entries_from start (all ++ s ∷ []) ≡ entries_from start all ++ entry_of (start + length (flat_map series_bytes all)) s ∷ []
 entries-append start [] s =
     let here : start ≡ start + 0 = omega arith in
     ap (λ n. entry_of n s ∷ []) here
 entries-append start (t ∷ all) s =
-    let at : start + length (blocks_bytes t.blocks) + length (flat_map stored_bytes all) ≡ start + length (flat_map stored_bytes (t ∷ all)) =
-    omega (arith, length-append (blocks_bytes t.blocks) (flat_map stored_bytes all)) in
+    let at : start + length (blocks_bytes t.blocks) + length (flat_map series_bytes all) ≡ start + length (flat_map series_bytes (t ∷ all)) =
+    omega (arith, length-append (blocks_bytes t.blocks) (flat_map series_bytes all)) in
     ap (λ es. entry_of start t ∷ es)
     (entries-append (start + length (blocks_bytes t.blocks)) all s
     ∙ ap (λ n. entries_from (start + length (blocks_bytes t.blocks)) all ++ entry_of n s ∷ []) at)
@@ -208,8 +201,8 @@ pub one_put : (series : List Series) (i : ℕ) (one : Series) (samples : List St
     → IsPut samples now after entry → ArePut (take (i + 1) series) before after (entries ++ entry ∷ [])
 one_put series i one samples before now after entries entry within is same so_far put =
     let its : Stored = record { labels = one.labels; blocks = put.blocks } in
-    let long : length now ≡ length before + length (flat_map stored_bytes so_far.all) =
-    ap length so_far.bytes ∙ length-append before (flat_map stored_bytes so_far.all) in
+    let long : length now ≡ length before + length (flat_map series_bytes so_far.all) =
+    ap length so_far.bytes ∙ length-append before (flat_map series_bytes so_far.all) in
     record {
       all = so_far.all ++ its ∷ [];
       cut =
@@ -219,10 +212,10 @@ one_put series i one samples before now after entries entry within is same so_fa
       stored = all_append IsStored so_far.all (its ∷ []) so_far.stored (record { blocks = put.say; order = put.order }, tt);
       bytes =
           put.bytes ∙ ap (λ bs. bs ++ blocks_bytes put.blocks) so_far.bytes
-          ∙ append_assoc before (flat_map stored_bytes so_far.all) (blocks_bytes put.blocks)
+          ∙ append_assoc before (flat_map series_bytes so_far.all) (blocks_bytes put.blocks)
           ∙ ap (λ bs. before ++ bs)
-          (ap (λ bs. flat_map stored_bytes so_far.all ++ bs) (sym (append-nil (blocks_bytes put.blocks)))
-          ∙ sym (flat_map-append stored_bytes so_far.all (its ∷ [])));
+          (ap (λ bs. flat_map series_bytes so_far.all ++ bs) (sym (append-nil (blocks_bytes put.blocks)))
+          ∙ sym (flat_map-append series_bytes so_far.all (its ∷ [])));
       said =
           ap₂ (λ es (e : Entry). es ++ e ∷ []) so_far.said (put.said one.labels ∙ ap (λ n. entry_of n its) long)
           ∙ sym (entries-append (length before) so_far.all its);
@@ -230,7 +223,7 @@ one_put series i one samples before now after entries entry within is same so_fa
 
 -- ---- the whole
 
-rows-entries : (start : ℕ) (all : List Stored) → sum_by (λ (e : Entry). e.rows) (entries_from start all) ≡ length (flat_map samples_of all)
+pub rows-entries : (start : ℕ) (all : List Stored) → sum_by (λ (e : Entry). e.rows) (entries_from start all) ≡ length (flat_map samples_of all)
 rows-entries start [] = refl
 rows-entries start (s ∷ all) =
     sum_by-cons (λ (e : Entry). e.rows) (entry_of start s) (entries_from (start + length (blocks_bytes s.blocks)) all)
@@ -271,32 +264,37 @@ sections_put before one two three after said sets m n p many rows first second t
     is ∙ whole
 
 pub weaker : (part : Kept) (P : List Stored → Type 0) → Says part P → Says part (λ all. ⊤)
-weaker part P says = record { all = says.all; bytes = says.bytes; sets = says.sets; entries = says.entries; rows = says.rows; that = tt }
+weaker part P says = record { all = says.all; said = says.said; that = tt }
 
 pub made : (series : List Series) (before written bytes : List ℕ) (said : List Entry) (sets : List (List Pair)) (rows : ℕ)
     → CanBeStored series → before ≡ front_mark → ArePut series before written said → sets ≡ map (λ (s : Series). s.labels) series
     → AreSets sets → rows ≡ sum_by (λ (e : Entry). e.rows) said → bytes ≡ with_sections written said sets (length sets) rows
+    → length bytes < 2 ^ 64 → rows < 2 ^ 64
     → Says (record { bytes = bytes; sets = sets; entries = said; rows = rows }) (AreCutUp series)
-made series before written bytes said sets rows can front_is put labels are_sets counted is =
+made series before written bytes said sets rows can front_is put labels are_sets counted is small few =
     let all : List Stored = put.all in
     let sets_are : sets ≡ sets_of all = labels ∙ sym (labels_cut series all put.cut) in
     let entries_are : said ≡ entries_of all = put.said ∙ ap (λ bs. entries_from (length bs) all) front_is in
     let rows_are : rows ≡ length (flat_map samples_of all) =
     counted ∙ ap (sum_by (λ (e : Entry). e.rows)) entries_are ∙ rows-entries 8 all in
     let many : length sets ≡ length all = ap length sets_are ∙ length-map all (λ (s : Stored). s.labels) in
-    let blocks_are : written ≡ front all = put.bytes ∙ ap (λ bs. bs ++ flat_map stored_bytes all) front_is in
+    let blocks_are : written ≡ front all = put.bytes ∙ ap (λ bs. bs ++ flat_map series_bytes all) front_is in
     record {
       all = all;
-      bytes = record {
-        stored = record {
-          some = omega (arith, can.some, many_cut series all put.cut);
-          sets = subst AreSets sets_are are_sets;
-          each = put.stored;
+      said = record {
+        bytes = record {
+          stored = record {
+            some = omega (arith, can.some, many_cut series all put.cut);
+            sets = subst AreSets sets_are are_sets;
+            each = put.stored;
+          };
+          spelled = spelled_so all written bytes said sets (length sets) rows blocks_are entries_are sets_are many rows_are is;
+          long = small;
+          rows = subst (λ n. n < 2 ^ 64) rows_are few;
         };
-        spelled = spelled_so all written bytes said sets (length sets) rows blocks_are entries_are sets_are many rows_are is;
+        sets = sets_are;
+        entries = entries_are;
+        rows = rows_are;
       };
-      sets = sets_are;
-      entries = entries_are;
-      rows = rows_are;
       that = put.cut;
     }

@@ -1,5 +1,5 @@
 -- What the checks of a file say of all of it: where it breaks, or which part it is.
-use Rattle.std.proofs.Common.{◌≡◌, ℕ, ◌-◌, ◌≤◌, ◌==◌, List, [], ◌∷◌, ◌++◌, length, map, sum, Some, None, ap, sym, ◌∙◌, subst, ⊎_elim, append_assoc, arith}
+use Rattle.std.proofs.Common.{◌≡◌, ℕ, ◌-◌, ◌^◌, ◌<◌, ◌≤◌, ◌==◌, List, [], ◌∷◌, ◌++◌, length, map, sum, Some, None, ap, sym, ◌∙◌, subst, ⊎_elim, append_assoc, arith}
 use Rattle.std.proofs.lemmas.Bool.{eqb-true}
 use Rattle.vm_block.specs.Header.{first_broken}
 use Rattle.vm_index.specs.Bytes.{postings_bytes}
@@ -91,13 +91,13 @@ first_place end (e ∷ more) some keep = eqb-true e.start 8 keep.0.start
 pub file_says : (len : ℕ) (bytes : List ℕ) (f : Footer) (es : List Entry) (sets : List (List Pair)) → IsBytes bytes → length bytes ≤ len → 56 ≤ len
     → f ≡ footer_at (len - 48) bytes → AreSections (len - 48) bytes f → es ≡ entries_at f.series f.entries_at bytes
     → first_broken (entries_section_rules f bytes) ≡ None → IsTable f.series (table_in f bytes) sets
-    → postings_in (len - 48) f bytes ≡ postings_bytes (postings_of sets) → HasAllBlocks bytes f.entries_at es
+    → postings_in (len - 48) f bytes ≡ postings_bytes (postings_of sets) → HasAllBlocks bytes f.entries_at es → len < 2 ^ 64 → f.rows < 2 ^ 64
     → Says (record { bytes = bytes; sets = sets; entries = es; rows = f.rows }) (λ all. Unit {0})
-file_says len bytes f es sets are within long f_is s es_are all table postings has =
+file_says len bytes f es sets are within long f_is s es_are all table postings has small few =
     let keep = entries_keep bytes f es es_are all in
     let many : length es ≡ f.series = ap length es_are ∙ entries_many f.series f.entries_at bytes in
     says_all (len - 48) bytes f es sets are (omega (arith, s.whole)) s f_is es_are many
-    (first_place f.entries_at es (omega (arith, many, s.some)) keep.0) keep.0 keep.1 table postings has
+    (first_place f.entries_at es (omega (arith, many, s.some)) keep.0) keep.0 keep.1 table postings has (omega arith) few
 
 pub file_long : (len : ℕ) (bytes : List ℕ) (f : Footer) → length bytes ≤ len → 56 ≤ len → AreSections (len - 48) bytes f → length bytes ≡ len
 file_long len bytes f within long s = omega (arith, s.whole)

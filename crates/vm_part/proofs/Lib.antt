@@ -3,11 +3,17 @@ mod BuildLaws
 mod EntryLaws
 mod FileLaws
 mod IndexLaws
+mod LayoutLaws
 mod MergeLaws
+mod OneBreak
+mod OnePart
 mod RuleLaws
+mod RulesKept
 mod SaidLaws
 mod SampleLaws
 mod SectionLaws
 mod SeriesFacts
+mod StandLaws
+mod Unbroken
 mod WholeLaws
 mod WritingLaws

@@ -7,7 +7,7 @@ use Rattle.std.proofs.lemmas.Int.{ints}
 use Rattle.std.proofs.lemmas.List.{length-map, map-append, take_more}
 use Rattle.std.proofs.lemmas.List.Concat.{flat_map-append}
 use Rattle.vm_base.specs.declared.stamped.Stamped.{Stamped}
-use Rattle.vm_block.specs.Block.{IsBlock, rise_from, times_of}
+use Rattle.vm_block.specs.Block.{rise_from, times_of}
 use Rattle.vm_dedup.specs.Visible.{stamped}
 use Rattle.vm_index.proofs.ListLaws.{all_append}
 use Rattle.vm_labels.specs.Bytes.{HasBytes}
@@ -16,9 +16,9 @@ use Rattle.vm_labels.specs.declared.pair.Pair.{Pair}
 use Rattle.vm_labels.specs.declared.row.Row.{Row}
 use Rattle.vm_series.specs.Series.{row_of, rows_of_piece}
 use Rattle.vm_series.specs.declared.series.Piece.{Piece}
-use Rattle.vm_part.specs.Merging.{AreRead, SaysAll, rows_beside}
-use Rattle.vm_part.specs.Part.{Block, IsStored, Stored, samples_in, samples_of, sets_of}
-use Rattle.vm_part.specs.Said.{Hold, IsRow, Kept, Says, rows_in, rows_of}
+use Rattle.vm_part.specs.Merging.{AreRead, rows_beside}
+use Rattle.vm_part.specs.Part.{Block, IsStored, SaysSamples, Stored, samples_in, samples_of, sets_of}
+use Rattle.vm_part.specs.Said.{Hold, IsRow, Kept, Says, SaysAll, rows_in, rows_of}
 use Rattle.vm_part.specs.Said.Hold.{none, next}
 use Rattle.std.specs.declared.rc.Rc.{Rc}
 use Rattle.vm_part.specs.declared.part.MemPart.{MemPart}
@@ -40,7 +40,7 @@ early_all last (s ∷ samples) rise =
     let both = and_parts (int_le last (pos s.time) && int_lt (pos s.time) (pos (2 ^ 48))) (rise_from (pos s.time) (times_of samples)) rise in
     (in_range last s.time both.0, early_all (pos s.time) samples both.1)
 
-early_in : (blocks : List Block) → AllByRecursion (λ (b : Block). IsBlock b.header b.body b.samples) blocks → AllByRecursion Early (samples_in blocks)
+early_in : (blocks : List Block) → AllByRecursion SaysSamples blocks → AllByRecursion Early (samples_in blocks)
 early_in [] say = tt
 early_in (b ∷ blocks) say =
     all_append Early b.samples (samples_in blocks) (early_all (pos 0) b.samples say.0.rise) (early_in blocks say.1)
@@ -113,7 +113,7 @@ pub one_part_read : {X : Type 0} (f : X → Kept) (xs : List X) (i : ℕ) (x : X
 one_part_read f xs i x read samples within is so_far says =
     let more : map f (take (i + 1) xs) ≡ map f (take i xs) ++ f x ∷ [] =
     ap (map f) (take_more xs i x within) ∙ map-append f (take i xs) (get_or xs i x ∷ []) ∙ ap (λ y. map f (take i xs) ++ f y ∷ []) (sym is) in
-    let its : SaysAll (f x) says.all = record { bytes = says.bytes; sets = says.sets; entries = says.entries; rows = says.rows } in
+    let its : SaysAll (f x) says.all = says.said in
     subst (λ parts. AreRead parts (read ++ samples ∷ [])) (sym more) (record {
       alls = so_far.alls ++ says.all ∷ [];
       said = zip_push SaysAll (map f (take i xs)) so_far.alls (f x) says.all so_far.said its;

@@ -11,4 +11,4 @@ entries_from-many start (s ∷ all) = ap suc (entries_from-many (start + length 
 -- there is an entry for each label set
 pub entries_many : (part : Kept) (P : List Stored → Type 0) → Says part P → length part.entries ≡ length part.sets
 entries_many part P says =
-    ap length says.entries ∙ entries_from-many 8 says.all ∙ sym (ap length says.sets ∙ length-map says.all (λ s. s.labels))
+    ap length says.said.entries ∙ entries_from-many 8 says.all ∙ sym (ap length says.said.sets ∙ length-map says.all (λ s. s.labels))

@@ -9,7 +9,7 @@ use Rattle.vm_block.specs.Header.{IsHeader, header_bytes}
 use Rattle.vm_block.specs.declared.header.BlockHeader.{BlockHeader}
 use Rattle.vm_block.proofs.Blocks.{one_block}
 use Rattle.vm_block.proofs.Rereading.{header_len, header_of_bytes}
-use Rattle.vm_part.specs.Part.{Block, IsPart, IsStored, Stored, block_bytes, blocks_bytes, entries, entries_from, entries_of, entry_of, footer, front_mark, image, postings, samples_in, samples_of, table}
+use Rattle.vm_part.specs.Part.{Block, IsPart, IsStored, Stored, block_bytes, blocks_bytes, entries, entries_from, entries_of, entry_of, footer, front_mark, image, postings, samples_in, samples_of, series_bytes, table}
 use Rattle.vm_part.specs.Said.{Kept}
 use Rattle.vm_part.specs.Standing.{AreHeader, BeginsWith, BeginsWithAll, HasBlock, HasBlocks, StandAt}
 use Rattle.vm_part.specs.declared.entry.Entry.{Entry}
@@ -135,9 +135,6 @@ all_read blocks samples rest left so_far none_left = go so_far.due so_far.many s
 
 -- ---- the blocks of a series in a part
 
-abbrev stored_bytes : Stored → List ℕ
-stored_bytes s = blocks_bytes s.blocks
-
 -- a series at its ordinal, and its blocks where its entry says
 pub record StoredAt (bytes : List ℕ) (entry : Entry) (all : List Stored) (ordinal : ℕ) : Type 0 where
   pub series : Stored
@@ -146,44 +143,45 @@ pub record StoredAt (bytes : List ℕ) (entry : Entry) (all : List Stored) (ordi
 
 entry_stands : (before : List ℕ) (all : List Stored) (rest : List ℕ) (ordinal : ℕ) (entry : Entry)
     → slice_get (entries_from (length before) all) ordinal ≡ Some entry → AllByRecursion IsStored all
-    → StoredAt (before ++ (flat_map stored_bytes all ++ rest)) entry all ordinal
+    → StoredAt (before ++ (flat_map series_bytes all ++ rest)) entry all ordinal
 entry_stands before [] rest ordinal entry is each = absurd (cc)
 entry_stands before (s ∷ all) rest zero entry is each =
-    let tail : List ℕ = flat_map stored_bytes (s ∷ all) ++ rest in
+    let tail : List ℕ = flat_map series_bytes (s ∷ all) ++ rest in
     let said : entry_of (length before) s ≡ entry = cc in
     let here : StandAt (before ++ tail) (entry_of (length before) s) s.blocks = record {
       within = omega (arith, length-append before tail);
       many = refl;
       begun = record {
-        more = flat_map stored_bytes all ++ rest;
-        spelled = drop_at before tail (length before) refl ∙ append_assoc (blocks_bytes s.blocks) (flat_map stored_bytes all) rest;
+        more = flat_map series_bytes all ++ rest;
+        spelled = drop_at before tail (length before) refl ∙ append_assoc (blocks_bytes s.blocks) (flat_map series_bytes all) rest;
         say = each.0.blocks;
       };
     } in
     record { series = s; is = refl; stand = subst (λ e. StandAt (before ++ tail) e s.blocks) said here }
 entry_stands before (s ∷ all) rest (suc n) entry is each =
     let its : List ℕ = blocks_bytes s.blocks in
-    let there : StoredAt ((before ++ its) ++ (flat_map stored_bytes all ++ rest)) entry all n =
+    let there : StoredAt ((before ++ its) ++ (flat_map series_bytes all ++ rest)) entry all n =
     entry_stands (before ++ its) all rest n entry
     (subst (λ k. slice_get (entries_from k all) n ≡ Some entry) (sym (length-append before its)) is) each.1 in
-    let same : (before ++ its) ++ (flat_map stored_bytes all ++ rest) ≡ before ++ ((its ++ flat_map stored_bytes all) ++ rest) =
-    append_assoc before its (flat_map stored_bytes all ++ rest)
-    ∙ ap (λ bs. before ++ bs) (sym (append_assoc its (flat_map stored_bytes all) rest)) in
+    let same : (before ++ its) ++ (flat_map series_bytes all ++ rest) ≡ before ++ ((its ++ flat_map series_bytes all) ++ rest) =
+    append_assoc before its (flat_map series_bytes all ++ rest)
+    ∙ ap (λ bs. before ++ bs) (sym (append_assoc its (flat_map series_bytes all) rest)) in
     record { series = there.series; is = there.is; stand = subst (λ bs. StandAt bs entry there.series.blocks) same there.stand }
 
 grouped : (m b e t p f : List ℕ) → ((((m ++ b) ++ e) ++ t) ++ p) ++ f ≡ m ++ (b ++ (e ++ (t ++ (p ++ f))))
 grouped m b e t p f = simp append_assoc
 
-image_front : (all : List Stored)
-    → image all ≡ front_mark ++ (flat_map stored_bytes all ++ (entries all ++ (table all ++ (postings all ++ footer all))))
+-- the sections one behind the other
+pub image_front : (all : List Stored)
+    → image all ≡ front_mark ++ (flat_map series_bytes all ++ (entries all ++ (table all ++ (postings all ++ footer all))))
 unfolding image
-image_front all = grouped front_mark (flat_map stored_bytes all) (entries all) (table all) (postings all) (footer all)
+image_front all = grouped front_mark (flat_map series_bytes all) (entries all) (table all) (postings all) (footer all)
 
 pub standing : (part : Kept) (all : List Stored) (ordinal : ℕ) (entry : Entry) (bytes : List ℕ) → IsPart part.bytes all
     → part.entries ≡ entries_of all → bytes ≡ part.bytes → slice_get part.entries ordinal ≡ Some entry → StoredAt bytes entry all ordinal
 standing part all ordinal entry bytes is_part entries_are same is =
     let rest : List ℕ = entries all ++ (table all ++ (postings all ++ footer all)) in
-    let here : StoredAt (front_mark ++ (flat_map stored_bytes all ++ rest)) entry all ordinal =
+    let here : StoredAt (front_mark ++ (flat_map series_bytes all ++ rest)) entry all ordinal =
     entry_stands front_mark all rest ordinal entry (subst (λ es. slice_get es ordinal ≡ Some entry) entries_are is) is_part.stored.each in
     record {
       series = here.series;
@@ -192,7 +190,7 @@ standing part all ordinal entry bytes is_part entries_are same is =
     }
 
 pub blocks_there : (bytes : List ℕ) (entry : Entry) (all : List Stored) (ordinal : ℕ) → StoredAt bytes entry all ordinal → HasBlocks bytes entry
-blocks_there bytes entry all ordinal at = record { blocks = at.series.blocks; stand = at.stand }
+blocks_there bytes entry all ordinal at = record { found = at.series.blocks; stand = at.stand }
 
 -- what is read of them are the samples of the series
 pub series_read : (bytes : List ℕ) (entry : Entry) (all : List Stored) (ordinal : ℕ) (samples : List Stamped) → StoredAt bytes entry all ordinal

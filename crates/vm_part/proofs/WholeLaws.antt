@@ -1,5 +1,5 @@
 -- A file of which each section was read is the part of its series.
-use Rattle.std.proofs.Common.{◌≡◌, ℕ, zero, suc, ◌+◌, ◌-◌, ◌*◌, ◌≤◌, List, [], ◌∷◌, ◌++◌, length, take, drop, map, flat_map, sum, Option, Some, None, refl, ap, ap₂, sym, ◌∙◌, subst, inl, inr, append_assoc, arith, length-append, w64}
+use Rattle.std.proofs.Common.{◌≡◌, ℕ, zero, suc, ◌+◌, ◌-◌, ◌*◌, ◌^◌, ◌<◌, ◌≤◌, List, [], ◌∷◌, ◌++◌, length, take, drop, map, flat_map, sum, Option, Some, None, refl, ap, ap₂, sym, ◌∙◌, subst, inl, inr, append_assoc, arith, length-append, w64}
 use Rattle.std.specs.Int.{to_be_bytes}
 use Rattle.std.specs.List.{AllByRecursion, sum_by}
 use Rattle.std.proofs.lemmas.Bool.{cases_lt}
@@ -13,7 +13,7 @@ use Rattle.vm_index.specs.Reading.{IsTable}
 use Rattle.vm_index.proofs.ReadLaws.{IsBytes}
 use Rattle.vm_labels.specs.declared.pair.Pair.{Pair}
 use Rattle.vm_part.specs.Broken.{SeriesStands, end_of, entries_at, footer_at, number_at, postings_in, table_in}
-use Rattle.vm_part.specs.Part.{Block, IsStored, Stored, blocks_bytes, entries, entries_from, entry_bytes, entry_of, footer, front, front_mark, image, postings, samples_in, samples_of, sets_of, table}
+use Rattle.vm_part.specs.Part.{Block, IsStored, Stored, blocks_bytes, entries, entries_from, entry_bytes, entry_of, footer, front, front_mark, image, postings, samples_in, samples_of, series_bytes, sets_of, table}
 use Rattle.vm_part.specs.Reading.{AllStand, AreSections, HasAllBlocks}
 use Rattle.vm_part.specs.Reading.AllStand.{none, next}
 use Rattle.vm_part.specs.Said.{Says}
@@ -68,13 +68,13 @@ stored (labels ∷ sets) [] = []
 stored (labels ∷ sets) (blocks ∷ others) = made labels blocks ∷ stored sets others
 
 abbrev all_blocks : List Stored → List ℕ
-all_blocks all = flat_map (λ s. blocks_bytes s.blocks) all
+all_blocks all = flat_map series_bytes all
 
 pub record AllSeries (bytes : List ℕ) (end start : ℕ) (es : List Entry) (sets : List (List Pair)) (all : List Stored) : Type 0 where
   pub entries : es ≡ entries_from start all
   pub each : AllByRecursion IsStored all
-  pub ends : end ≡ start + length (flat_map (λ s. blocks_bytes s.blocks) all)
-  pub spelled : field (length (flat_map (λ s. blocks_bytes s.blocks) all)) start bytes ≡ flat_map (λ s. blocks_bytes s.blocks) all
+  pub ends : end ≡ start + length (flat_map series_bytes all)
+  pub spelled : field (length (flat_map series_bytes all)) start bytes ≡ flat_map series_bytes all
   pub rows : sum_by (λ e. e.rows) es ≡ length (flat_map samples_of all)
   pub named : sets_of all ≡ sets
 
@@ -175,7 +175,7 @@ regroup a b e t p f = sym (simp append_assoc)
 
 -- what stands in the sections of a file is the image of the series
 pub record Sections (at : ℕ) (bytes : List ℕ) (f : Footer) (all : List Stored) : Type 0 where
-  pub blocks : field (f.entries_at - 8) 8 bytes ≡ flat_map (λ s. blocks_bytes s.blocks) all
+  pub blocks : field (f.entries_at - 8) 8 bytes ≡ flat_map series_bytes all
   pub entries : field (f.table_at - f.entries_at) f.entries_at bytes ≡ entries all
   pub table : field (f.postings_at - f.table_at) f.table_at bytes ≡ table all
   pub postings : field (at - f.postings_at) f.postings_at bytes ≡ postings all
@@ -192,14 +192,14 @@ is_image at bytes f all are long s f_is says =
     ∙ ap (λ rest. field (f.table_at - f.entries_at) f.entries_at bytes ++ rest) (cut bytes f.table_at f.postings_at s.table
     ∙ ap (λ rest. field (f.postings_at - f.table_at) f.table_at bytes ++ rest) (cut bytes f.postings_at at s.postings))))
     ∙ (λ i. s.front i ++ (says.blocks i ++ (says.entries i ++ (says.table i ++ (says.postings i ++ last i)))))
-    ∙ regroup front_mark (flat_map (λ s. blocks_bytes s.blocks) all) (entries all) (table all) (postings all) (footer all)
+    ∙ regroup front_mark (flat_map series_bytes all) (entries all) (table all) (postings all) (footer all)
   where
     rise : f.entries_at ≤ f.table_at
     rise = let e = s.entries in omega arith
 
     front_long : length (front all) ≡ f.entries_at
     front_long =
-        let l = length-append front_mark (flat_map (λ s. blocks_bytes s.blocks) all) in
+        let l = length-append front_mark (flat_map series_bytes all) in
         let b = sym (ap length says.blocks) ∙ between_long bytes 8 f.entries_at s.low (omega (arith, rise, s.table, s.postings)) in
         omega (arith, l, b, s.low)
 
@@ -236,37 +236,41 @@ pub says_all : (at : ℕ) (bytes : List ℕ) (f : Footer) (es : List Entry) (set
     → AreSections at bytes f → f ≡ footer_at at bytes → es ≡ entries_at f.series f.entries_at bytes → length es ≡ f.series → end_of f.entries_at es ≡ 8
     → AllKeep f.entries_at None es → sum (map (λ e. e.rows) es) ≡ f.rows
     → IsTable f.series (table_in f bytes) sets → postings_in at f bytes ≡ postings_bytes (postings_of sets)
-    → HasAllBlocks bytes f.entries_at es
+    → HasAllBlocks bytes f.entries_at es → length bytes < 2 ^ 64 → f.rows < 2 ^ 64
     → Says (record { bytes = bytes; sets = sets; entries = es; rows = f.rows }) (λ all. Unit {0})
-says_all at bytes f es sets are long s f_is es_are many begins keep rows is_table postings_are has =
+says_all at bytes f es sets are long s f_is es_are many begins keep rows is_table postings_are has small few =
     let all = stored sets has.blocks in
     let series = all_series bytes f.entries_at 8 None es sets has.blocks (sym begins) (is_table.many ∙ sym many) keep has.stand in
     let count : length all ≡ f.series = sym (length-map all (λ (x : Stored). x.labels)) ∙ ap length series.named ∙ is_table.many in
     let counted : length (flat_map samples_of all) ≡ f.rows = sym series.rows ∙ sym (sum-map (λ (e : Entry). e.rows) es) ∙ rows in
-    let blocks_len : f.entries_at - 8 ≡ length (flat_map (λ s. blocks_bytes s.blocks) all) = omega (arith, series.ends) in
+    let blocks_len : f.entries_at - 8 ≡ length (flat_map series_bytes all) = omega (arith, series.ends) in
     let entries_len : f.table_at - f.entries_at ≡ 40 * f.series = omega (arith, s.entries) in
     record {
       all = all;
-      bytes = record {
-        stored = record {
-          some = omega (arith, count, s.some);
-          sets = subst AreSets (sym series.named) is_table.labels;
-          each = series.each;
+      said = record {
+        bytes = record {
+          stored = record {
+            some = omega (arith, count, s.some);
+            sets = subst AreSets (sym series.named) is_table.labels;
+            each = series.each;
+          };
+          spelled = is_image at bytes f all are long s f_is (record {
+            blocks = ap (λ n. field n 8 bytes) blocks_len ∙ series.spelled;
+            entries =
+                ap (λ n. field n f.entries_at bytes) entries_len
+                ∙ entries_spelled bytes are f.series f.entries_at (omega (arith, s.entries, s.table, s.postings))
+                ∙ ap (flat_map entry_bytes) (sym es_are ∙ series.entries);
+            table = is_table.spelled ∙ ap table_bytes (sym series.named);
+            postings = postings_are ∙ ap (λ ss. postings_bytes (postings_of ss)) (sym series.named);
+            many = count;
+            rows = counted;
+          });
+          long = small;
+          rows = subst (λ n. n < 2 ^ 64) (sym counted) few;
         };
-        spelled = is_image at bytes f all are long s f_is (record {
-          blocks = ap (λ n. field n 8 bytes) blocks_len ∙ series.spelled;
-          entries =
-              ap (λ n. field n f.entries_at bytes) entries_len
-              ∙ entries_spelled bytes are f.series f.entries_at (omega (arith, s.entries, s.table, s.postings))
-              ∙ ap (flat_map entry_bytes) (sym es_are ∙ series.entries);
-          table = is_table.spelled ∙ ap table_bytes (sym series.named);
-          postings = postings_are ∙ ap (λ ss. postings_bytes (postings_of ss)) (sym series.named);
-          many = count;
-          rows = counted;
-        });
+        sets = sym series.named;
+        entries = series.entries;
+        rows = sym counted;
       };
-      sets = sym series.named;
-      entries = series.entries;
-      rows = sym counted;
       that = tt;
     }

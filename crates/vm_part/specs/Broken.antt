@@ -7,7 +7,7 @@ use Rattle.vm_base.specs.Sample.{is_sample}
 use Rattle.vm_base.specs.Sorted.{last_of}
 use Rattle.vm_base.specs.Stamped.{is_in_order}
 use Rattle.vm_base.specs.declared.stamped.Stamped.{Stamped}
-use Rattle.vm_block.specs.Block.{BreaksAt, IsBlock, scaled_by}
+use Rattle.vm_block.specs.Block.{BreaksAt, scaled_by}
 use Rattle.vm_block.specs.Header.{IsHeader, field, field_rules, first_broken, header_bytes, is_last_time, is_time}
 use Rattle.vm_block.specs.declared.header.BlockHeader.{BlockHeader}
 use Rattle.vm_index.specs.Bytes.{postings_bytes}
@@ -15,7 +15,7 @@ use Rattle.vm_index.specs.Index.{postings_of}
 use Rattle.vm_index.specs.Reading.{IsRefused, IsTable}
 use Rattle.vm_index.specs.declared.fault.IndexFault.TheVariants.{BrokenTable, BrokenPostings}
 use Rattle.vm_labels.specs.declared.pair.Pair.{Pair}
-use Rattle.vm_part.specs.Part.{Block, blocks_bytes, end_mark, front_mark, samples_in}
+use Rattle.vm_part.specs.Part.{Block, SaysSamples, blocks_bytes, end_mark, front_mark, samples_in}
 use Rattle.vm_part.specs.declared.entry.Entry.{Entry}
 use Rattle.vm_part.specs.declared.fault.ReadFault.{ReadFault}
 use Rattle.vm_part.specs.declared.fault.ReadFault.TheVariants.{Broken, Memory}
@@ -161,7 +161,7 @@ pub data BreaksBehind (room : ℕ) (e : Entry) (before : List Block) (rest : Lis
 -- each of these blocks may stand behind those before it, and says its samples
 pub data Stand (room : ℕ) (e : Entry) : List Block → Type 0 where
   none : Stand room e []
-  next : (before : List Block) (b : Block) → Stand room e before → IsBlock b.header b.body b.samples
+  next : (before : List Block) (b : Block) → Stand room e before → SaysSamples b
       → may_stand (room - length (blocks_bytes before)) e before b.header ≡ true → Stand room e (before ++ b ∷ [])
 
 -- of a series whose blocks end at a place: some stand there, and behind them it breaks

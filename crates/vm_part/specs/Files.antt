@@ -57,3 +57,9 @@ abbrev pub IsDamage : ℕ → ℕ → PartFault → Type 0
 IsDamage file len (Damaged damaged at) = (damaged ≡ file) × (bytes : List ℕ) × Breaks len bytes at
 IsDamage file len DiskFault = ⊤
 IsDamage file len Memory = ⊤
+
+-- a fault that isn't in the bytes of a file
+abbrev pub IsNoDamage : PartFault → Type 0
+IsNoDamage (Damaged damaged at) = ⊥
+IsNoDamage DiskFault = ⊤
+IsNoDamage Memory = ⊤

@@ -5,12 +5,11 @@ use Rattle.std.specs.List.{AllByRecursion}
 use Rattle.vm_base.specs.Sorted.{IsUp, last_of}
 use Rattle.vm_base.specs.Stamped.{is_in_order}
 use Rattle.vm_base.specs.declared.stamped.Stamped.{Stamped}
-use Rattle.vm_block.specs.Block.{IsBlock}
 use Rattle.vm_index.specs.Bytes.{postings_bytes, table_bytes}
 use Rattle.vm_index.specs.Index.{postings_of}
 use Rattle.vm_labels.specs.declared.pair.Pair.{Pair}
 use Rattle.vm_series.specs.declared.series.Series.{Series}
-use Rattle.vm_part.specs.Part.{Block, Stored, IsStored, blocks_bytes, end_mark, entries_from, entry_bytes, entry_of, first_of, samples_in, time_of}
+use Rattle.vm_part.specs.Part.{Block, IsStored, SaysSamples, Stored, blocks_bytes, end_mark, entries_from, entry_bytes, entry_of, first_of, samples_in, series_bytes, time_of}
 use Rattle.vm_part.specs.Said.{AreBlocks, AreCutUp}
 use Rattle.vm_part.specs.declared.entry.Entry.{Entry}
 use Rattle.vm_part.specs.declared.footer.Footer.{Footer}
@@ -41,7 +40,7 @@ summed start blocks samples = record {
 pub record IsPut (samples : List Stamped) (before after : List ℕ) (entry : Entry) : Type 0 where
   pub blocks : List Block
   pub cut : AreBlocks samples blocks
-  pub say : AllByRecursion (λ b. IsBlock b.header b.body b.samples) blocks
+  pub say : AllByRecursion SaysSamples blocks
   pub order : IsUp is_in_order (samples_in blocks)
   pub bytes : after ≡ before ++ blocks_bytes blocks
   pub said : (labels : List Pair) → entry ≡ entry_of (length before) (record { labels = labels; blocks = blocks })
@@ -51,7 +50,7 @@ pub record ArePut (series : List Series) (before after : List ℕ) (entries : Li
   pub all : List Stored
   pub cut : AreCutUp series all
   pub stored : AllByRecursion IsStored all
-  pub bytes : after ≡ before ++ flat_map (λ s. blocks_bytes s.blocks) all
+  pub bytes : after ≡ before ++ flat_map series_bytes all
   pub said : entries ≡ entries_from (length before) all
 
 -- ---- the sections behind them

@@ -1,5 +1,5 @@
 -- A part file: the series that it holds, and its bytes.
-use Rattle.std.specs.Prelude.{◌≡◌, ℕ, ◌+◌, ◌≤◌, List, [], ◌∷◌, ◌++◌, length, map, flat_map, codes, Option, Some, None}
+use Rattle.std.specs.Prelude.{◌≡◌, ℕ, ◌+◌, ◌^◌, ◌<◌, ◌≤◌, List, [], ◌∷◌, ◌++◌, length, map, flat_map, codes, Option, Some, None}
 use Rattle.std.specs.Int.{w64, to_be_bytes}
 use Rattle.std.specs.List.{AllByRecursion}
 use Rattle.vm_base.specs.Sorted.{IsUp, last_of}
@@ -26,6 +26,10 @@ pub record Stored : Type 0 where
   pub labels : List Pair
   pub blocks : List Block
 
+-- the header and the body of a block say its samples
+abbrev pub SaysSamples : Block → Type 0
+SaysSamples b = IsBlock b.header b.body b.samples
+
 -- the samples of blocks
 abbrev pub samples_in : List Block → List Stamped
 samples_in blocks = flat_map (λ b. b.samples) blocks
@@ -40,7 +44,7 @@ sets_of all = map (λ s. s.labels) all
 
 -- each block says its samples, and they stand in order over all blocks
 pub record IsStored (s : Stored) : Type 0 where
-  pub blocks : AllByRecursion (λ b. IsBlock b.header b.body b.samples) s.blocks
+  pub blocks : AllByRecursion SaysSamples s.blocks
   pub order : IsUp is_in_order (samples_of s)
 
 -- a part holds some series, in label order
@@ -56,6 +60,9 @@ block_bytes b = header_bytes b.header ++ b.body
 
 abbrev pub blocks_bytes : List Block → List ℕ
 blocks_bytes blocks = flat_map block_bytes blocks
+
+abbrev pub series_bytes : Stored → List ℕ
+series_bytes s = blocks_bytes s.blocks
 
 -- the time of a sample, 0 where there is none
 abbrev pub time_of : Option Stamped → ℕ
@@ -97,7 +104,7 @@ end_mark = codes "VMDPEND1"
 
 -- The sections of a part before its footer.
 abbrev pub front : List Stored → List ℕ
-front all = front_mark ++ flat_map (λ s. blocks_bytes s.blocks) all
+front all = front_mark ++ flat_map series_bytes all
 
 abbrev pub entries : List Stored → List ℕ
 entries all = flat_map entry_bytes (entries_of all)
@@ -121,7 +128,9 @@ footer all =
 unfoldable pub image : List Stored → List ℕ
 image all = front all ++ entries all ++ table all ++ postings all ++ footer all
 
--- The grammar: the bytes are a part that holds these series.
+-- The grammar: the bytes are a part that holds these series. All its places and counts are numbers of eight bytes.
 pub record IsPart (bytes : List ℕ) (all : List Stored) : Type 0 where
   pub stored : AreStored all
   pub spelled : bytes ≡ image all
+  pub long : length bytes < 2 ^ 64
+  pub rows : length (flat_map samples_of all) < 2 ^ 64

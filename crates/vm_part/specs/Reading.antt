@@ -1,13 +1,13 @@
 -- What a reader of a part finds, section by section. Only private functions cite it.
 use Rattle.std.specs.Prelude.{◌≡◌, ◌⊎◌, ℕ, suc, ◌+◌, ◌-◌, ◌*◌, ◌%◌, ◌<◌, ◌≤◌, ◌==◌, ◌&&◌, ◌||◌, nat_le, nat_lt, not, sum, Bool, true, List, [], ◌∷◌, ◌++◌, length, map, take, bytes_eq, Some, None, if◌then◌else◌, ⊤}
 use Rattle.vm_base.specs.Sorted.{last_of}
-use Rattle.vm_block.specs.Block.{BreaksAt, IsBlock}
+use Rattle.vm_block.specs.Block.{BreaksAt}
 use Rattle.vm_block.specs.Header.{IsHeader, field, field_rules, first_broken, header_bytes}
 use Rattle.vm_block.specs.declared.header.BlockHeader.{BlockHeader}
 use Rattle.vm_part.specs.Broken.{BreaksBehind, SeriesBreaks, SeriesStands, SomeBreaks, end_of, entries_at, entries_rules, first_sample, footer_rules, is_whole, may_follow, number_at, postings_in, table_in}
 use Rattle.vm_index.specs.Reading.{IsRefused}
 use Rattle.vm_index.specs.declared.fault.IndexFault.TheVariants.{BrokenTable, BrokenPostings}
-use Rattle.vm_part.specs.Part.{Block, block_bytes, end_mark, front_mark, samples_in}
+use Rattle.vm_part.specs.Part.{Block, SaysSamples, block_bytes, end_mark, front_mark, samples_in}
 use Rattle.vm_part.specs.declared.blocks.Seen.{Seen}
 use Rattle.vm_part.specs.declared.entry.Entry.{Entry}
 use Rattle.vm_part.specs.declared.fault.ReadFault.{ReadFault}
@@ -118,7 +118,7 @@ IsBodyFault h body Memory = ⊤
 -- one block more of so many bytes
 pub record Joins (room : ℕ) (e : Entry) (rest : List ℕ) (old new : Seen) (len : ℕ) : Type 0 where
   pub block : Block
-  pub is : IsBlock block.header block.body block.samples
+  pub is : SaysSamples block
   pub may : may_come room e old block.header ≡ true
   pub spelled : take len rest ≡ block_bytes block
   pub long : len ≡ length (block_bytes block)
@@ -131,7 +131,7 @@ IsBlockFault room e seen rest (Broken at) = (at ≤ length rest) × ((before : L
 IsBlockFault room e seen rest Memory = ⊤
 
 -- all blocks of a series stand there
-pub record HasBlocks (bytes : List ℕ) (end : ℕ) (e : Entry) : Type 0 where
+pub record HasSeries (bytes : List ℕ) (end : ℕ) (e : Entry) : Type 0 where
   pub blocks : List Block
   pub stand : SeriesStands bytes end e blocks
 

@@ -23,13 +23,17 @@ pub record Kept : Type 0 where
   pub entries : List Entry
   pub rows : ℕ
 
--- the bytes are a part that holds some series with P, and the rest is theirs
-pub record Says (part : Kept) (P : List Stored → Type 0) : Type 0 where
-  pub all : List Stored
+-- the bytes are a part that holds these series, and the rest is theirs
+pub record SaysAll (part : Kept) (all : List Stored) : Type 0 where
   pub bytes : IsPart part.bytes all
   pub sets : part.sets ≡ sets_of all
   pub entries : part.entries ≡ entries_of all
   pub rows : part.rows ≡ length (flat_map samples_of all)
+
+-- they are those of some series with P
+pub record Says (part : Kept) (P : List Stored → Type 0) : Type 0 where
+  pub all : List Stored
+  pub said : SaysAll part all
   pub that : P all
 
 -- ---- what a part is made of

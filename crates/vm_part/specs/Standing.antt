@@ -1,10 +1,9 @@
 -- Blocks that stand in bytes.
 use Rattle.std.specs.Prelude.{◌≡◌, ℕ, ◌≤◌, List, ◌++◌, length, drop}
 use Rattle.std.specs.List.{AllByRecursion}
-use Rattle.vm_block.specs.Block.{IsBlock}
 use Rattle.vm_block.specs.Header.{IsHeader, header_bytes}
 use Rattle.vm_block.specs.declared.header.BlockHeader.{BlockHeader}
-use Rattle.vm_part.specs.Part.{Block, block_bytes, blocks_bytes}
+use Rattle.vm_part.specs.Part.{Block, SaysSamples, block_bytes, blocks_bytes}
 use Rattle.vm_part.specs.declared.entry.Entry.{Entry}
 
 -- the bytes are a header
@@ -15,7 +14,7 @@ pub record AreHeader (bytes : List ℕ) : Type 0 where
 
 -- a block stands at the front, before more bytes
 pub record BeginsWith (bytes : List ℕ) (b : Block) (more : List ℕ) : Type 0 where
-  pub block : IsBlock b.header b.body b.samples
+  pub block : SaysSamples b
   pub spelled : bytes ≡ block_bytes b ++ more
 
 -- some block stands at the front
@@ -28,7 +27,7 @@ pub record HasBlock (bytes : List ℕ) : Type 0 where
 pub record BeginsWithAll (bytes : List ℕ) (blocks : List Block) : Type 0 where
   pub more : List ℕ
   pub spelled : bytes ≡ blocks_bytes blocks ++ more
-  pub say : AllByRecursion (λ b. IsBlock b.header b.body b.samples) blocks
+  pub say : AllByRecursion SaysSamples blocks
 
 -- as many blocks as an entry says stand at its place
 pub record StandAt (bytes : List ℕ) (entry : Entry) (blocks : List Block) : Type 0 where
@@ -38,5 +37,5 @@ pub record StandAt (bytes : List ℕ) (entry : Entry) (blocks : List Block) : Ty
 
 -- some do
 pub record HasBlocks (bytes : List ℕ) (entry : Entry) : Type 0 where
-  pub blocks : List Block
-  pub stand : StandAt bytes entry blocks
+  pub found : List Block
+  pub stand : StandAt bytes entry found

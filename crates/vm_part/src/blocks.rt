@@ -4,7 +4,7 @@ ghost use Rattle.vm_base.specs.Sorted.{last_of};
 ghost use Rattle.vm_block.specs.Block.{IsBlock};
 ghost use Rattle.vm_block.specs.Header.{IsHeader};
 ghost use Rattle.vm_part.specs.Broken.{end_of, first_sample, may_follow};
-ghost use Rattle.vm_part.specs.Reading.{HasAllBlocks, HasBlocks, HasHeader, IsBlockFault, IsBlocksFault, IsBodyFault, IsSeriesFault, Joins, NoHeader, PlacesRise, may_come};
+ghost use Rattle.vm_part.specs.Reading.{HasAllBlocks, HasSeries, HasHeader, IsBlockFault, IsBlocksFault, IsBodyFault, IsSeriesFault, Joins, NoHeader, PlacesRise, may_come};
 
 use crate::{Entry, ReadFault};
 use std::alloc::Global;
@@ -62,7 +62,7 @@ fn check_series(
     requires start { entry.now.start ≤ blocks_end }
     requires end { blocks_end ≤ entries_at }
     requires within { entries_at ≤ length bytes.now }
-    ensures stand { OnOk result (HasBlocks bytes.now blocks_end entry.now) }
+    ensures stand { OnOk result (HasSeries bytes.now blocks_end entry.now) }
     ensures broken { IfErr result (λ fault. IsSeriesFault bytes.now entries_at blocks_end entry.now fault) }
 {
     let mut seen = Seen {

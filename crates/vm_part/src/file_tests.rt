@@ -5,7 +5,8 @@
 ghost use Rattle.vm_part.specs.Files.{HasWritten};
 
 use crate::{
-    MemPart, PartFault, PartReader, PartWriter, ReadFault, Writing, are_within_limits, open_part,
+    MemPart, PartFault, PartReader, PartWriter, ReadFault, Writing, a_part_breaks_nowhere,
+    a_part_says_one_list, are_within_limits, bytes_break_at_one_place, open_part,
 };
 use std::alloc::{AllocError, Global};
 use std::rc::Rc;
@@ -113,7 +114,7 @@ fn sum_on(sum: u32, number: u64) -> u32 {
 }
 
 /// The label set of these names and values.
-fn labels(alloc: Global, pairs: &[(&str, &str)]) -> Result<Labels, LabelFault> {
+pub(crate) fn labels(alloc: Global, pairs: &[(&str, &str)]) -> Result<Labels, LabelFault> {
     let mut list = List::new(alloc);
     for (name, value) in pairs {
         list.push(Pair {
@@ -364,4 +365,11 @@ fn a_fault_names_its_place(rt: HostRuntime) -> Result<(), Fail> {
     let told = format!(in rt.alloc(); "{}", PartFault::Damaged { file: 7, at: 147 })?;
     assert!(rt; told.as_str() == "file 7 is damaged at byte 147");
     Ok(())
+}
+
+#[test]
+fn laws_ask_for_nothing(_rt: HostRuntime) {
+    a_part_says_one_list();
+    a_part_breaks_nowhere();
+    bytes_break_at_one_place();
 }

@@ -22,6 +22,7 @@ mod fields;
 #[cfg(test)]
 mod file_tests;
 mod footer;
+mod laws;
 mod limits;
 mod merging;
 mod numbers;
@@ -36,6 +37,7 @@ mod writer;
 
 pub use entry::Entry;
 pub use fault::{PartFault, ReadFault};
+pub use laws::{a_part_breaks_nowhere, a_part_says_one_list, bytes_break_at_one_place};
 pub use limits::are_within_limits;
 pub use opening::open_part;
 pub use part::MemPart;

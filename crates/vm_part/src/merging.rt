@@ -5,8 +5,8 @@ ghost use Rattle.std.specs.List.{AllZip};
 ghost use Rattle.vm_dedup.specs.Visible.{stamped};
 ghost use Rattle.vm_series.specs.Series.{rows_of_piece};
 ghost use Rattle.vm_part.specs.Part.{Stored, samples_of};
-ghost use Rattle.vm_part.specs.Said.{Says, rows_in};
-ghost use Rattle.vm_part.specs.Merging.{AreRead, SaysAll, rows_beside};
+ghost use Rattle.vm_part.specs.Said.{Says, SaysAll, rows_in};
+ghost use Rattle.vm_part.specs.Merging.{AreRead, rows_beside};
 
 use crate::MemPart;
 use crate::series::read_blocks;

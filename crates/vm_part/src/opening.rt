@@ -1,10 +1,11 @@
 //! A part that is read from a file.
 
-ghost use Rattle.std.specs.Prelude.{◌≡◌, ◌+◌, ◌≤◌, length, take, IfErr, IfOk, IsErrOf, IsTrue, ⊤};
+ghost use Rattle.std.specs.Prelude.{◌≡◌, ◌+◌, ◌≤◌, List, length, take, IfErr, IfOk, IsErrOf, IsTrue, ⊤};
 ghost use Rattle.vm_outside.specs.Disk.{Quiet};
 ghost use Rattle.vm_outside.specs.Outside.{Rose};
 ghost use Rattle.vm_outside.specs.declared.files.ReadFault.TheVariants.{Failed as NotRead};
-ghost use Rattle.vm_part.specs.Files.{IsDamage, IsFileFault};
+ghost use Rattle.vm_part.specs.Files.{IsDamage, IsFileFault, IsNoDamage};
+ghost use Rattle.vm_part.specs.Part.{IsPart, Stored};
 ghost use Rattle.vm_part.specs.declared.fault.PartFault.TheVariants.{DiskFault as NoDisk};
 
 use crate::{MemPart, PartFault, PartReader, ReadFault};
@@ -27,6 +28,8 @@ pub fn open_part<D: Disk>(
     ensures len { IfOk result (λ reader. length reader.part.bytes ≡ len) }
     ensures part { IsTrue (D.honest disk.old) → IfOk result (λ reader. reader.part.bytes ≡ take len (D.reads disk.old file)) }
     // When the error comes.
+    ensures only { IsTrue (D.honest disk.old) → (all : List Stored) → IsPart (take len (D.reads disk.old file)) all
+        → len ≤ length (D.reads disk.old file) → IfErr result IsNoDamage }
     ensures damaged { IsTrue (D.honest disk.old) → IfErr result (λ fault. IsFileFault file len (take len (D.reads disk.old file)) fault) }
     ensures damage { IfErr result (λ fault. IsDamage file len fault) }
     ensures counted { D.read_faults disk.old ≤ D.read_faults disk.new }

@@ -1,12 +1,14 @@
 //! A part read from bytes.
 
-ghost use Rattle.std.specs.Prelude.{◌≡◌, ◌≤◌, length, IfOk, IfErr, OnOk, ⊤};
+ghost use Rattle.std.specs.Prelude.{◌≡◌, ◌≤◌, List, length, IfOk, IfErr, OnOk, ⊤};
 ghost use Rattle.vm_index.specs.Bytes.{postings_bytes};
 ghost use Rattle.vm_index.specs.Index.{postings_of};
 ghost use Rattle.vm_index.specs.Reading.{IsTable};
 ghost use Rattle.vm_part.specs.Broken.{IsReadFault, postings_in, table_in};
+ghost use Rattle.vm_part.specs.Part.{IsPart, Stored};
 ghost use Rattle.vm_part.specs.Reading.{AreSections, IsIndexFault};
 ghost use Rattle.vm_part.specs.Said.{Says};
+ghost use Rattle.vm_part.specs.declared.fault.ReadFault.TheVariants.{Memory};
 
 use crate::blocks::check_blocks;
 use crate::entries::read_entries;
@@ -30,6 +32,7 @@ impl MemPart {
     pub fn read(alloc: Global, len: u64, bytes: Vec<u8>) -> Result<MemPart, ReadFault>
         requires { length bytes.items ≤ len }
         ensures found { IfOk result (λ part. (part.bytes ≡ bytes.items) × (length bytes.items ≡ len)) }
+        ensures only { (all : List Stored) → IsPart bytes.items all → length bytes.items ≡ len → IfErr result (λ fault. fault ≡ Memory) }
         ensures broken { IfErr result (λ fault. IsReadFault len bytes.items fault) }
     {
         let found = find(alloc, len, bytes.as_slice())?;

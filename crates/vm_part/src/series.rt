@@ -46,7 +46,7 @@ fn put_block<'a>(
     let header = header_at(front);
     let len = header.times_len as usize + header.values_len as usize;
     let (body, rest) = behind.split_at(len);
-    let block = read_body(alloc, &header, body)?;
+    let block = read_standing(alloc, &header, body)?;
     samples.extend_from_slice(block.as_slice())?;
     Ok(rest)
 }
@@ -65,8 +65,12 @@ fn header_at(front: &[u8]) -> BlockHeader
     }
 }
 
-/// The samples of a block with this header and this body.
-fn read_body(alloc: Global, header: &BlockHeader, body: &[u8]) -> Result<List<Stamped>, AllocError>
+/// The samples of the block that this header and this body are.
+fn read_standing(
+    alloc: Global,
+    header: &BlockHeader,
+    body: &[u8],
+) -> Result<List<Stamped>, AllocError>
     requires { (samples : List Stamped) × IsBlock header.now body.now samples }
     ensures { IfOk result (IsBlock header.now body.now) }
 {

@@ -1,12 +1,13 @@
 //! Parts of one series, whose bytes were worked out by hand: `up 1 900` makes 194 of them.
 
 use crate::MemPart;
+use crate::file_tests::labels;
 use std::alloc::{AllocError, Global};
 use std::rc::Rc;
 use std::test::Fail;
 use vm_base::limits::MAX_TIME;
-use vm_base::{List, Sample, Stamped, Text};
-use vm_labels::{Batch, LabelFault, Labels, Pair, Row};
+use vm_base::{List, Sample, Stamped};
+use vm_labels::{Batch, LabelFault, Labels, Row};
 
 /// The entry of one row at 900 ms: its block is the first one.
 const ENTRY: &[u8] =
@@ -18,12 +19,7 @@ const FOOTER: &[u8] =
 
 /// The label set of `up`.
 fn up(alloc: Global) -> Result<Labels, LabelFault> {
-    let mut pairs = List::new(alloc);
-    pairs.push(Pair {
-        name: Text::from_str(alloc, "__name__")?,
-        value: Text::from_str(alloc, "up")?,
-    })?;
-    Labels::build(alloc, pairs)
+    labels(alloc, &[("__name__", "up")])
 }
 
 /// A whole number that doesn't end with 0, at a time.

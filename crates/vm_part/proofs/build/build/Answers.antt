@@ -1,5 +1,5 @@
 -- What was written is a part of the series.
-use Rattle.std.proofs.Common.{length, sum_by, ap, ◌∙◌, sym, subst}
+use Rattle.std.proofs.Common.{length, sum_by, ap, ◌∙◌, sym, subst, arith}
 use Rattle.vm_part.specs.Making.{ArePut, with_sections}
 use Rattle.vm_part.specs.Said.{AreCutUp, IsMadeOf, Kept}
 use Rattle.vm_part.specs.declared.entry.Entry.{Entry}
@@ -21,7 +21,8 @@ keep-requires c =
     (subst (λ xs. ArePut xs before written said) c.as_slice.ensures c.in_ok-entries.ensures)
     (c.in_ok-index.ensures ∙ c.in_ok-sets.ensures) c.in_ok-put_sections.ensures.sets
     (c.in_ok-rows.ensures ∙ ap (sum_by (λ (entry : Entry). entry.rows)) c.as_slice-2.ensures)
-    (c.in_ok-put_sections.ensures.bytes ∙ ap (λ es. with_sections written es sets many rows) c.as_slice-3.ensures))
+    (c.in_ok-put_sections.ensures.bytes ∙ ap (λ es. with_sections written es sets many rows) c.as_slice-3.ensures)
+    (omega arith) (omega arith))
 
 pub returns : goal.returns
 returns c =
@@ -37,4 +38,5 @@ returns c =
     (subst (λ xs. ArePut xs before written said) c.as_slice.ensures c.in_ok-entries.ensures)
     (c.in_ok-index.ensures ∙ c.in_ok-sets.ensures) c.in_ok-put_sections.ensures.sets
     (c.in_ok-rows.ensures ∙ ap (sum_by (λ (entry : Entry). entry.rows)) c.as_slice-2.ensures)
-    (c.in_ok-put_sections.ensures.bytes ∙ ap (λ es. with_sections written es sets many rows) c.as_slice-3.ensures))
+    (c.in_ok-put_sections.ensures.bytes ∙ ap (λ es. with_sections written es sets many rows) c.as_slice-3.ensures)
+    (omega arith) (omega arith))

@@ -3,7 +3,7 @@ use Rattle.std.specs.List.{AllZip}
 use Rattle.vm_series.specs.Series.{rows_of_piece}
 use Rattle.vm_part.specs.Part.{Stored, samples_of}
 use Rattle.vm_part.specs.Said.{rows_in}
-use Rattle.vm_part.specs.Merging.{SaysAll}
+use Rattle.vm_part.specs.Said.{SaysAll}
 use Rattle.vm_part.proofs.merging.pieces_of_parts.Given as goal
 
 abbrev pub invariant-loop-at : goal.invariant-loop-at

@@ -11,7 +11,7 @@ read_blocks-requires c =
     let entry = c.entry-said.result in
     let ordinal = c.loop-ordinal.ordinal in
     blocks_there bytes entry says.all ordinal
-    (standing c.args.part.now says.all ordinal entry bytes says.bytes says.entries c.image-bytes.ensures.bytes c.entry-said.ensures)
+    (standing c.args.part.now says.all ordinal entry bytes says.said.bytes says.said.entries c.image-bytes.ensures.bytes c.entry-said.ensures)
 
 pub loop-ordinal-preserved : goal.loop-ordinal-preserved
 loop-ordinal-preserved c = λ all is entries.

@@ -49,6 +49,7 @@ returns-clause-says c =
     file_says c.args.len c.args.bytes.now f c.in_ok-entries.entries c.in_ok-index.index fits c.requires c.if-len-lt-MIN_LEN.false
     c.in_ok-footer.ensures.footer c.in_ok-footer.ensures.sections c.in_ok-entries.ensures.entries c.in_ok-entries.ensures.kept
     c.in_ok-index.ensures.table c.in_ok-index.ensures.postings (subst (HasAllBlocks c.args.bytes.now f.entries_at) c.as_slice.ensures c.in_ok-check_blocks.ensures.stand)
+    (omega arith) (omega arith)
 
 pub returns-clause-long : goal.returns-clause-long
 returns-clause-long c = file_long c.args.len c.args.bytes.now c.in_ok-footer.footer c.requires c.if-len-lt-MIN_LEN.false c.in_ok-footer.ensures.sections

@@ -15,8 +15,8 @@ split_at-requires-2 c =
     (behind c.args.bytes.now c.split_at.result.0.now c.split_at.result.1.now (h.times_len + h.values_len) h c.requires.first c.requires.more c.requires.begins
     c.split_at.ensures.front c.split_at.ensures.back c.header_at-header.ensures.header c.header_at-header.ensures.bytes refl).within
 
-pub read_body-requires : goal.read_body-requires
-read_body-requires c =
+pub read_standing-requires : goal.read_standing-requires
+read_standing-requires c =
     let h = c.header_at-header.result in
     let b = c.requires.first in
     let at = behind c.args.bytes.now c.split_at.result.0.now c.split_at.result.1.now (h.times_len + h.values_len) h b c.requires.more c.requires.begins

@@ -14,7 +14,7 @@ pub put_block-requires : goal.put_block-requires
 put_block-requires c =
     let left = c.args.entry.now.blocks - c.reading._block in
     let some : 0 < left = omega arith in
-    one_there c.requires.blocks c.reading.samples.items c.reading.rest.now left (c.reading.invariant c.requires.blocks c.requires.stand) some
+    one_there c.requires.found c.reading.samples.items c.reading.rest.now left (c.reading.invariant c.requires.found c.requires.stand) some
 
 pub reading-preserved : goal.reading-preserved
 reading-preserved c = λ blocks stand.

@@ -2,7 +2,7 @@
 use Rattle.std.proofs.Common.{◌≡◌, ℕ}
 use Rattle.vm_block.specs.declared.fault.BlockFault.{BlockFault}
 use Rattle.vm_block.specs.declared.fault.BlockFault.TheVariants.{Broken, Memory}
-use Rattle.vm_part.proofs.series.read_body.Goals as goal
+use Rattle.vm_part.proofs.series.read_standing.Goals as goal
 
 never : (fault : BlockFault) (at : ℕ) → fault ≡ Broken at → fault ≡ Memory → ⊥
 never fault at broken memory = cc
