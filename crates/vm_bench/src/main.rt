@@ -9,12 +9,17 @@
 //!
 //! `encode KIND ROUNDS`, `decode KIND ROUNDS` and `move KIND ROUNDS` make a series of 16 blocks, constant, counter,
 //! gauge or random, and write its blocks, read them, or copy their samples in memory; each prints how many samples
-//! and how many bytes of blocks that were. With 0 rounds they take the time of making the series. The scripts of
-//! `bench/` take the times.
+//! and how many bytes of blocks that were. With 0 rounds they take the time of making the series.
+//!
+//! `part-rows SERIES`, `part-batches SERIES`, `part-merge SERIES`, `part-hold SERIES`, `part-open SERIES`,
+//! `part-find SERIES` and `part-copy SERIES` make rows of so many series, parts of them, one part of these, put its
+//! file on a disk in memory, open it, look series up, or copy the file; each does what those before it do too. They
+//! print how many bytes the file has and how many series were found. The scripts of `bench/` take the times.
 #![tactic(auto)]
 
 mod blocks;
 mod decimals;
+mod parts;
 mod queries;
 
 use anyhow::{Result, bail};
@@ -67,7 +72,11 @@ fn of_input(alloc: Global, call: &str, input: &[u8], rounds: u32) -> Result<Stri
             let bytes = copy(alloc, input, rounds)?;
             format!(in alloc; "bytes {bytes}")?
         }
-        _ => bail!("usage"),
+        _ => {
+            let done = parts::run(alloc, call, u64::from(rounds))?;
+            let (bytes, found) = (done.bytes, done.found);
+            format!(in alloc; "bytes {bytes} found {found}")?
+        }
     };
     Ok(told)
 }
