@@ -11,10 +11,9 @@
 //! gauge or random, and write its blocks, read them, or copy their samples in memory; each prints how many samples
 //! and how many bytes of blocks that were. With 0 rounds they take the time of making the series.
 //!
-//! `part-rows SERIES`, `part-batches SERIES`, `part-merge SERIES`, `part-hold SERIES`, `part-open SERIES`,
-//! `part-find SERIES` and `part-copy SERIES` make rows of so many series, parts of them, one part of these, put its
-//! file on a disk in memory, open it, look series up, or copy the file; each does what those before it do too. They
-//! print how many bytes the file has and how many series were found. The scripts of `bench/` take the times.
+//! `parts SERIES` makes parts of five batches of so many series, one part of these, opens its file, looks labels up
+//! and copies the file, and tells how many bytes the file has, how many series were found and how many microseconds
+//! each took. The scripts of `bench/` take the times of the others.
 #![tactic(auto)]
 
 mod blocks;
@@ -40,6 +39,11 @@ fn main(rt: HostRuntime) -> Result<()> {
         words.push(word)?;
     }
     let told = match words.as_slice() {
+        [name, series] if name.as_str() == "parts" => parts::run(
+            &rt,
+            alloc,
+            series.parse::<u64>()?,
+        )?,
         [name, rounds] => of_input(alloc, name.as_str(), &input, rounds.parse::<u32>()?)?,
         [name, kind, rounds] => {
             of_kind(
@@ -72,11 +76,7 @@ fn of_input(alloc: Global, call: &str, input: &[u8], rounds: u32) -> Result<Stri
             let bytes = copy(alloc, input, rounds)?;
             format!(in alloc; "bytes {bytes}")?
         }
-        _ => {
-            let done = parts::run(alloc, call, u64::from(rounds))?;
-            let (bytes, found) = (done.bytes, done.found);
-            format!(in alloc; "bytes {bytes} found {found}")?
-        }
+        _ => bail!("usage"),
     };
     Ok(told)
 }

@@ -2,6 +2,7 @@
 use anyhow::{Result, bail};
 use std::alloc::Global;
 use std::rc::Rc;
+use std::time::{Clock, Instant};
 use vm_base::{List, Sample, Text};
 use vm_labels::{Batch, Labels, Pair, Row};
 use vm_outside::MemDisk;
@@ -19,77 +20,80 @@ const TIMES: [u64; 5] = [
 /// The file of the part.
 const FILE: u64 = 2;
 
-/// How many bytes the file of the part has, and how many series were found, 0 each where it didn't come to that.
-#[derive(Clone, Copy, Debug)]
-pub(crate) struct Done {
-    pub bytes: u64,
-    pub found: u64,
-}
-
-/// Goes as far as the name says, with so many series. `part-rows` makes the rows of five batches, `part-batches` a
-/// part of each, `part-merge` one part of all, `part-hold` puts its file on a disk in memory, `part-open` opens it,
-/// `part-find` looks a thousand labels up a thousand times, of which each is one series' in a thousand, and `part-copy`
-/// copies the file a hundred times.
-pub(crate) fn run(alloc: Global, name: &str, series: u64) -> Result<Done> {
-    match name {
-        "part-rows" => make_rows(alloc, series),
-        "part-batches" => make_parts(alloc, series),
-        _ => {
-            let part = merged(alloc, series)?;
-            go_on(alloc, name, &part)
-        }
-    }
-}
-
-/// Makes the rows alone.
-fn make_rows(alloc: Global, series: u64) -> Result<Done> {
-    for time in TIMES {
-        batch(alloc, series, time)?;
-    }
-    Ok(Done { bytes: 0, found: 0 })
-}
-
-/// Makes a part of each batch.
-fn make_parts(alloc: Global, series: u64) -> Result<Done> {
-    parts(alloc, series)?;
-    Ok(Done { bytes: 0, found: 0 })
-}
-
-/// Goes on with the part of all batches.
-fn go_on(alloc: Global, name: &str, part: &MemPart) -> Result<Done> {
+/// Makes parts of five batches of so many series, one part of these, opens its file, looks a thousand labels up a
+/// thousand times, and copies the file a hundred times. Tells how many bytes the file has, how many series were found,
+/// and how many microseconds each of the five took.
+pub(crate) fn run<C: Clock>(clock: &C, alloc: Global, series: u64) -> Result<String> {
+    let (parts, batches) = parts(clock, alloc, series)?;
+    let (part, merge) = merged(clock, alloc, &parts)?;
     let file = part.image();
-    let found = match name {
-        "part-merge" => 0,
-        "part-hold" => hold(alloc, file)?,
-        "part-open" => open_and_drop(alloc, file)?,
-        "part-find" => open_and_find(alloc, file)?,
-        "part-copy" => copy(alloc, file)?,
-        _ => bail!("usage"),
-    };
-    Ok(Done {
-        bytes: file.len() as u64,
-        found,
-    })
+    let (reader, open) = opened(clock, alloc, file)?;
+    let (found, find) = looked_up(clock, alloc, &reader)?;
+    let copy = copied(clock, alloc, file)?;
+    let bytes = file.len();
+    Ok(format!(in alloc;
+        "bytes {bytes} found {found} batches {batches} merge {merge} open {open} find {find} copy {copy}"
+    )?)
 }
 
-/// The part of the parts of all batches.
-fn merged(alloc: Global, series: u64) -> Result<MemPart> {
-    let parts = parts(alloc, series)?;
+/// How many microseconds went by.
+fn micros_since<C: Clock>(clock: &C, start: Instant) -> Result<u64> {
+    let micros = start.elapsed(clock)?.as_micros();
+    Ok(u64::try_from(micros).unwrap_or(u64::MAX))
+}
+
+/// A part of each batch, and how long they took.
+fn parts<C: Clock>(clock: &C, alloc: Global, series: u64) -> Result<(Vec<Rc<MemPart>>, u64)> {
+    let mut parts = Vec::new(alloc);
+    let mut took = 0u64;
+    for time in TIMES {
+        let batch = batch(alloc, series, time)?;
+        let start = Instant::now(clock)?;
+        let part = part_of(alloc, &batch)?;
+        took = took.saturating_add(micros_since(clock, start)?);
+        parts.push(Rc::new(alloc, part)?)?;
+    }
+    Ok((parts, took))
+}
+
+/// The part of these parts, and how long it took.
+fn merged<C: Clock>(clock: &C, alloc: Global, parts: &[Rc<MemPart>]) -> Result<(MemPart, u64)> {
     if !parts.iter().any(|part| part.rows() > 0) {
         bail!("no rows");
     }
-    Ok(MemPart::of_parts(alloc, &parts, 0)?)
+    let start = Instant::now(clock)?;
+    let part = MemPart::of_parts(alloc, parts, 0)?;
+    let took = micros_since(clock, start)?;
+    Ok((part, took))
 }
 
-/// A part of each batch.
-fn parts(alloc: Global, series: u64) -> Result<Vec<Rc<MemPart>>> {
-    let mut parts = Vec::new(alloc);
-    for time in TIMES {
-        let batch = batch(alloc, series, time)?;
-        let part = part_of(alloc, &batch)?;
-        parts.push(Rc::new(alloc, part)?)?;
+/// The part that is opened, of a file on a disk in memory, and how long it took.
+fn opened<C: Clock>(clock: &C, alloc: Global, file: &[u8]) -> Result<(PartReader, u64)> {
+    let mut disk = MemDisk::steady(alloc).holding(FILE, file)?;
+    let start = Instant::now(clock)?;
+    let reader = open_part(alloc, &mut disk, FILE, file.len() as u64)?;
+    let took = micros_since(clock, start)?;
+    Ok((reader, took))
+}
+
+/// How many series are found, and how long it took.
+fn looked_up<C: Clock>(clock: &C, alloc: Global, reader: &PartReader) -> Result<(u64, u64)> {
+    let values = shards(alloc)?;
+    let start = Instant::now(clock)?;
+    let found = find(reader, &values);
+    let took = micros_since(clock, start)?;
+    Ok((found, took))
+}
+
+/// How long a hundred copies of the file take.
+fn copied<C: Clock>(clock: &C, alloc: Global, file: &[u8]) -> Result<u64> {
+    let mut place = Vec::with_capacity(alloc, file.len())?;
+    let start = Instant::now(clock)?;
+    for _round in 0..100 {
+        place.clear();
+        place.extend_from_slice(file)?;
     }
-    Ok(parts)
+    micros_since(clock, start)
 }
 
 fn part_of(alloc: Global, batch: &Batch) -> Result<MemPart> {
@@ -155,45 +159,16 @@ fn put(alloc: Global, pairs: &mut List<Pair>, name: &str, value: &str) -> Result
     Ok(())
 }
 
-/// Puts the file on a disk, and does nothing with it.
-fn hold(alloc: Global, file: &[u8]) -> Result<u64> {
-    disk_of(alloc, file)?;
-    Ok(0)
-}
-
-/// Opens the file.
-fn open_and_drop(alloc: Global, file: &[u8]) -> Result<u64> {
-    open(alloc, file)?;
-    Ok(0)
-}
-
-/// Opens the file, and looks series up in it.
-fn open_and_find(alloc: Global, file: &[u8]) -> Result<u64> {
-    let reader = open(alloc, file)?;
-    find(alloc, &reader)
-}
-
-/// A disk in memory with the file.
-fn disk_of(alloc: Global, file: &[u8]) -> Result<MemDisk> {
-    Ok(MemDisk::steady(alloc).holding(FILE, file)?)
-}
-
-fn open(alloc: Global, file: &[u8]) -> Result<PartReader> {
-    let mut disk = disk_of(alloc, file)?;
-    Ok(open_part(alloc, &mut disk, FILE, file.len() as u64)?)
-}
-
 /// How many series are found by each `shard`, a thousand times.
-fn find(alloc: Global, reader: &PartReader) -> Result<u64> {
-    let values = shards(alloc)?;
+fn find(reader: &PartReader, values: &[String]) -> u64 {
     let mut found = 0u64;
     for _round in 0..1_000 {
-        for value in &values {
+        for value in values {
             let ordinals = reader.index().lookup("shard", value.as_str());
             found = found.saturating_add(ordinals.len() as u64);
         }
     }
-    Ok(found)
+    found
 }
 
 /// The values of `shard`.
@@ -203,14 +178,4 @@ fn shards(alloc: Global) -> Result<Vec<String>> {
         values.push(format!(in alloc; "shard-{number}")?)?;
     }
     Ok(values)
-}
-
-/// Copies the file a hundred times.
-fn copy(alloc: Global, file: &[u8]) -> Result<u64> {
-    let mut place = Vec::with_capacity(alloc, file.len())?;
-    for _round in 0..100 {
-        place.clear();
-        place.extend_from_slice(file)?;
-    }
-    Ok(0)
 }
