@@ -1,0 +1,4 @@
+//! Tests of what reads lines: lines of an input, the text format, JSON, and the replay script.
+//!
+//! Each file has the tables of one crate. `test_rows` reads what their rows write.
+#![tactic(auto)]
