@@ -1,4 +1,16 @@
-//! Tests of the commands and of the machine that they are held against.
+//! Tests of the commands, over objects in memory, and of the adapters of the system.
 //!
-//! Each file has the tables of one command or crate. `test_rows` reads what their rows write.
+//! `commands` runs the program as each row of a table says, `trial` reads such a row, and the rows stand in
+//! files of their own. `test_rows` reads the escapes in them.
 #![tactic(auto)]
+
+#[cfg(test)]
+mod commands;
+#[cfg(test)]
+mod last_rows;
+#[cfg(test)]
+mod replay_rows;
+#[cfg(test)]
+mod system;
+#[cfg(test)]
+mod trial;

@@ -16,8 +16,6 @@ mod machine;
 mod question;
 mod refusal;
 mod run;
-#[cfg(test)]
-mod tests;
 mod window;
 
 pub use batches::Batches;

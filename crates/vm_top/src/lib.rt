@@ -24,14 +24,8 @@ mod note;
 mod play;
 mod printed;
 mod program;
-#[cfg(test)]
-mod replay_tests;
 mod reply;
 mod status;
-#[cfg(test)]
-mod tests;
-#[cfg(test)]
-mod trial;
 mod words;
 
 pub use fault::Fault;

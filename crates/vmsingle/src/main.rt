@@ -1,31 +1,14 @@
 //! The program: a command line, standard input, standard output and the clock, handed to
 //! `vm_top::run_words`.
 //!
-//! The files beside this one are the edge: `ReaderSource`, `WriterSink` and `SystemClock` bring the
-//! system's streams and clock under the traits of `vm_outside`. They tell contracts no content: no
-//! proof knows what the system gives and takes. All that the program decides stands in `vm_top` and
-//! the crates below.
-//!
-//! It stands on `vm_outside` for the traits, and on `vm_top` for the commands.
+//! It decides nothing else. The adapters of `vm_system` bring the system's streams and clock under the
+//! traits of `vm_outside`, and `vm_top` says what each command does.
 #![tactic(auto)]
 
-mod command_line;
-mod reader_source;
-mod system_clock;
-#[cfg(test)]
-mod tests;
-mod writer_sink;
-
-use command_line::words;
-use reader_source::ReaderSource;
 use std::process::ExitCode;
-use system_clock::SystemClock;
 use vm_outside::{NoDisk, NoLink, NoPatterns};
+use vm_system::{ReaderSource, SystemClock, WriterSink, words};
 use vm_top::{Status, run_words};
-use writer_sink::WriterSink;
-
-/// How often a call on a stream is tried that a signal interrupts each time.
-const TRIES: u32 = 64;
 
 /// Does what the command line asks, and ends with the number of its `Status`.
 fn main(rt: HostRuntime) -> ExitCode {

@@ -1,7 +1,3 @@
-use crate::command_line::words;
-use crate::reader_source::ReaderSource;
-use crate::system_clock::SystemClock;
-use crate::writer_sink::WriterSink;
 use std::alloc::{AllocError, Global};
 use std::cell::Cell;
 use std::env::FillError;
@@ -10,6 +6,7 @@ use std::test::Fail;
 use std::time::Duration;
 use std::{io, rt};
 use vm_outside::{Clock, Failed, Source, write_all};
+use vm_system::{ReaderSource, SystemClock, WriterSink, words};
 
 /// How a call of a stream in memory goes: it moves so many bytes at most, or fails.
 type Step = Result<usize, ErrorKind>;

@@ -1,5 +1,5 @@
 use Rattle.std.specs.Io.KnownBytes.{Keeps}
-use Rattle.vmsingle.proofs.writer_sink.write_some.Given as goal
+use Rattle.vm_system.proofs.writer_sink.write_some.Given as goal
 
 -- a write that a signal interrupted put nothing
 abbrev pub invariant-tries : goal.invariant-tries

@@ -1,5 +1,5 @@
 use Rattle.std.specs.Io.KnownBytes.{Keeps}
-use Rattle.vmsingle.proofs.reader_source.read_some.Given as goal
+use Rattle.vm_system.proofs.reader_source.read_some.Given as goal
 
 -- a read that a signal interrupted took nothing
 abbrev pub invariant-tries : goal.invariant-tries
