@@ -9,11 +9,24 @@ export LC_ALL=C
 
 root=$(CDPATH= cd -- "$(dirname -- "$0")/.." && pwd)
 program=$root/crates/vm_bench/out/vm_bench
+lines=$(mktemp)
+trap 'rm -f -- "$lines"' EXIT
+
+# A sample of each of so many series, of which some labels are the same in all, and others in many.
+generate() {
+    awk -v series="$1" 'BEGIN {
+        for (number = 0; number < series; number++)
+            printf "node_network_receive_bytes_total{datacenter=\"eu-west-1\",device=\"device-%d\"," \
+                "environment=\"production\",instance=\"instance-%d\",job=\"node\",os=\"linux\",rack=\"rack-%d\"," \
+                "shard=\"shard-%d\",team=\"storage\"} %.1f\n", number % 8, number / 8, number / 512, number % 1000, number / 10
+    }'
+}
 
 [ -x "$program" ] || (cd -- "$root/crates/vm_bench" && rt run -- promtext 0 </dev/null >&2)
 for series in 50000 100000; do
+    generate "$series" >"$lines"
     for _ in 1 2 3; do
-        echo "series $series $("$program" parts "$series" </dev/null)"
+        echo "series $series $("$program" parts 1 <"$lines")"
     done
 done | awk '
     {

@@ -17,6 +17,7 @@ cd -- "$folder"
 git init -q .
 [ $# -gt 0 ] || set -- $(ls -d crates/*/planted | cut -d/ -f2)
 for name in "$@"; do
+    [ -d "crates/$name/planted" ] || { echo "$name has no planted/" >&2 && exit 1; }
     rm -rf -- "crates/$name/must-fail"
     mv -- "crates/$name/planted" "crates/$name/must-fail"
 done

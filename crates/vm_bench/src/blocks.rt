@@ -1,8 +1,8 @@
 //! Blocks written, read, and copied as samples.
 ghost use Rattle.vm_block.specs.Cut.{AreOneBlock};
 
-use anyhow::{Result, bail};
-use std::alloc::Global;
+use crate::Counts;
+use std::alloc::{AllocError, Global};
 use vm_base::{Sample, Stamped};
 use vm_block::{are_one_block, cut, decode_block, encode_block, read_header};
 
@@ -16,28 +16,39 @@ const STEP: u64 = 15_000;
 
 /// Calls what the name says on each block of a series of this kind, so many times. Gives how many
 /// samples and bytes of blocks that were.
-pub(crate) fn run(alloc: Global, name: &str, kind: &str, rounds: u32) -> Result<(u64, u64)> {
+pub(crate) fn run(
+    alloc: Global,
+    name: &str,
+    kind: &str,
+    rounds: u32,
+) -> Result<Counts, AllocError> {
     let samples = series(alloc, kind)?;
-    let mut total = (0u64, 0u64);
-    for block in cut(alloc, &samples)?.as_slice() {
-        let block = block.as_slice();
-        if are_one_block(block) {
-            let bytes = match name {
-                "encode" => encode(alloc, block, rounds)?,
-                "decode" => decode(alloc, block, rounds)?,
-                "move" => copy(alloc, block, rounds)?,
-                _ => bail!("usage"),
-            };
-            let moved = (block.len() as u64).saturating_mul(u64::from(rounds));
-            total.0 = total.0.saturating_add(moved);
-            total.1 = total.1.saturating_add(bytes);
-        }
+    if samples.is_empty() {
+        return Ok(Vec::new(alloc));
     }
-    Ok(total)
+    let mut bytes = 0u64;
+    for block in cut(alloc, &samples)?.as_slice() {
+        bytes = bytes.saturating_add(on_block(alloc, name, block.as_slice(), rounds)?);
+    }
+    let moved = (samples.len() as u64).saturating_mul(u64::from(rounds));
+    Ok(Vec::from_array(alloc, [("samples", moved), ("bytes", bytes)])?)
 }
 
-/// The samples of a series of a kind.
-fn series(alloc: Global, kind: &str) -> Result<Vec<Stamped>> {
+/// Calls what the name says on a block, so many times, and gives the bytes of all.
+fn on_block(alloc: Global, name: &str, block: &[Stamped], rounds: u32) -> Result<u64, AllocError> {
+    if !are_one_block(block) {
+        return Ok(0);
+    }
+    match name {
+        "encode" => encode(alloc, block, rounds),
+        "decode" => decode(alloc, block, rounds),
+        "move" => copy(alloc, block, rounds),
+        _ => Ok(0),
+    }
+}
+
+/// The samples of a series of a kind, none where there is no such kind.
+fn series(alloc: Global, kind: &str) -> Result<Vec<Stamped>, AllocError> {
     let mut samples = Vec::with_capacity(alloc, SAMPLES as usize)?;
     let mut chance = 1u64;
     let mut count = 0u64;
@@ -52,7 +63,7 @@ fn series(alloc: Global, kind: &str) -> Result<Vec<Stamped>> {
             "counter" => Sample::of(signed(count), 0),
             "gauge" => Sample::of(signed(number % 1_000), -1),
             "random" => Sample::of(signed(number % 1_000_000_000_000_000_000), -6),
-            _ => bail!("usage"),
+            _ => return Ok(Vec::new(alloc)),
         };
         samples.push(Stamped {
             time: FIRST + STEP * place,
@@ -67,7 +78,7 @@ fn signed(number: u64) -> i64 {
 }
 
 /// Writes a block so many times, and gives the bytes of all.
-fn encode(alloc: Global, block: &[Stamped], rounds: u32) -> Result<u64>
+fn encode(alloc: Global, block: &[Stamped], rounds: u32) -> Result<u64, AllocError>
     requires { AreOneBlock block.now }
 {
     let mut bytes = 0u64;
@@ -78,14 +89,14 @@ fn encode(alloc: Global, block: &[Stamped], rounds: u32) -> Result<u64>
 }
 
 /// Reads a block so many times, and gives the bytes of all.
-fn decode(alloc: Global, block: &[Stamped], rounds: u32) -> Result<u64>
+fn decode(alloc: Global, block: &[Stamped], rounds: u32) -> Result<u64, AllocError>
     requires { AreOneBlock block.now }
 {
     let block = encode_block(alloc, block)?;
     let block = block.as_slice();
     let mut bytes = 0u64;
     for _round in 0..rounds {
-        if read(alloc, block)? {
+        if is_read(alloc, block) {
             bytes = bytes.saturating_add(block.len() as u64);
         }
     }
@@ -93,24 +104,24 @@ fn decode(alloc: Global, block: &[Stamped], rounds: u32) -> Result<u64>
 }
 
 /// Whether bytes are a block.
-fn read(alloc: Global, block: &[u8]) -> Result<bool> {
+fn is_read(alloc: Global, block: &[u8]) -> bool {
     if block.len() < 40 {
-        return Ok(false);
+        return false;
     }
     let mut front = [0; 40];
     front.copy_from_slice(&block[..40]);
     let Ok(header) = read_header(&front) else {
-        return Ok(false);
+        return false;
     };
     let body = &block[40..];
     if body.len() != header.times_len as usize + header.values_len as usize {
-        return Ok(false);
+        return false;
     }
-    Ok(decode_block(alloc, &header, body).is_ok())
+    decode_block(alloc, &header, body).is_ok()
 }
 
 /// Copies the samples of a block so many times, and gives the bytes of all copies.
-fn copy(alloc: Global, block: &[Stamped], rounds: u32) -> Result<u64> {
+fn copy(alloc: Global, block: &[Stamped], rounds: u32) -> Result<u64, AllocError> {
     let mut place = Vec::with_capacity(alloc, block.len())?;
     let mut bytes = 0u64;
     for _round in 0..rounds {

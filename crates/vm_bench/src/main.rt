@@ -11,24 +11,25 @@
 //! gauge or random, and write its blocks, read them, or copy their samples in memory; each prints how many samples
 //! and how many bytes of blocks that were. With 0 rounds they take the time of making the series.
 //!
-//! `parts SERIES` makes parts of five batches of so many series, one part of these, opens its file, looks labels up
-//! and copies the file, and tells how many bytes the file has, how many series were found and how many microseconds
-//! each took. The scripts of `bench/` take the times of the others.
+//! `parts ROUNDS` makes a part of each of five batches of the lines of standard input, one part of these, opens its
+//! file, looks labels up a thousand times in each round and copies the file, and tells how many bytes the file has, how
+//! many series were found and how many microseconds each took. The scripts of `bench/` take the times of the others.
 #![tactic(auto)]
 
 mod blocks;
 mod decimals;
+mod lines;
 mod parts;
 mod queries;
 
 use anyhow::{Result, bail};
-use std::alloc::Global;
+use std::alloc::{AllocError, Global};
 use std::env;
 use std::io::Read;
-use vm_promtext::{Line, read_line};
+use std::time::Clock;
 
-/// The time of lines without one, in ms.
-const NOW: u64 = 1_700_000_000_000;
+/// What is printed: numbers with their names.
+type Counts = Vec<(&'static str, u64)>;
 
 fn main(rt: HostRuntime) -> Result<()> {
     let alloc = rt.alloc();
@@ -38,88 +39,41 @@ fn main(rt: HostRuntime) -> Result<()> {
     for word in env::args(&rt)?.skip(1) {
         words.push(word)?;
     }
-    let told = match words.as_slice() {
-        [name, series] if name.as_str() == "parts" => parts::run(
-            &rt,
-            alloc,
-            series.parse::<u64>()?,
-        )?,
-        [name, rounds] => of_input(alloc, name.as_str(), &input, rounds.parse::<u32>()?)?,
-        [name, kind, rounds] => {
-            of_kind(
-                alloc,
-                name.as_str(),
-                kind.as_str(),
-                &input,
-                rounds.parse::<u32>()?,
-            )?
-        }
+    let (call, kind, rounds) = match words.as_slice() {
+        [call, rounds] => (call.as_str(), "", rounds.as_str()),
+        [call, kind, rounds] => (call.as_str(), kind.as_str(), rounds.as_str()),
         _ => bail!("usage"),
     };
-    println!(rt; "{told}")?;
+    let rounds = rounds.parse::<u32>()?;
+    let counts = counts(&rt, alloc, call, kind, &input, rounds)?;
+    if counts.is_empty() {
+        bail!("usage");
+    }
+    let mut blank = "";
+    for (name, number) in counts {
+        print!(rt; "{blank}{name} {number}")?;
+        blank = " ";
+    }
+    println!(rt; "")?;
     Ok(())
 }
 
-/// What a call makes of the input.
-fn of_input(alloc: Global, call: &str, input: &[u8], rounds: u32) -> Result<String> {
-    let told = match call {
-        "promtext" => {
-            let (rows, skipped) = read_lines(alloc, input, rounds)?;
-            format!(in alloc; "rows {rows} skipped {skipped}")?
-        }
-        "queries" => {
-            let counts = queries::read_and_print(alloc, str::from_utf8(input)?, rounds)?;
-            let (queries, right, bytes) = (counts.queries, counts.right, counts.bytes);
-            format!(in alloc; "queries {queries} right {right} bytes {bytes}")?
-        }
-        "copy" => {
-            let bytes = copy(alloc, input, rounds)?;
-            format!(in alloc; "bytes {bytes}")?
-        }
-        _ => bail!("usage"),
-    };
-    Ok(told)
-}
-
-/// What a call of some kind makes of the input, or of a series of that kind.
-fn of_kind(alloc: Global, call: &str, kind: &str, input: &[u8], rounds: u32) -> Result<String> {
-    let told = match call {
-        "decimals" => {
-            let counted = decimals::calculate(alloc, input, kind, rounds)?;
-            format!(in alloc; "counted {counted}")?
-        }
-        _ => {
-            let (samples, bytes) = blocks::run(alloc, call, kind, rounds)?;
-            format!(in alloc; "samples {samples} bytes {bytes}")?
-        }
-    };
-    Ok(told)
-}
-
-/// How many rows the lines hold, and how many lines are skipped, in all rounds.
-fn read_lines(alloc: Global, input: &[u8], rounds: u32) -> Result<(u64, u64)> {
-    let mut rows = 0u64;
-    let mut skipped = 0u64;
-    for _round in 0..rounds {
-        for line in input.split(|byte| *byte == b'\n') {
-            match read_line(alloc, line, NOW)? {
-                Line::Row(_) => rows = rows.saturating_add(1),
-                Line::Skipped { at: _ } => skipped = skipped.saturating_add(1),
-                Line::Nothing | Line::NoNumber => {}
-            }
-        }
+/// What so many calls come to. Nothing where no call has these words.
+fn counts<C: Clock>(
+    clock: &C,
+    alloc: Global,
+    call: &str,
+    kind: &str,
+    input: &[u8],
+    rounds: u32,
+) -> Result<Counts, AllocError> {
+    match call {
+        "promtext" => lines::read_all(alloc, input, rounds),
+        "copy" => lines::copy(alloc, input, rounds),
+        "queries" => queries::read_and_print(alloc, input, rounds),
+        "parts" => parts::run(clock, alloc, input, rounds),
+        "decimals" => decimals::calculate(alloc, input, kind, rounds),
+        "encode" | "decode" | "move" => blocks::run(alloc, call, kind, rounds),
+        _ => Ok(Vec::new(alloc)),
     }
-    Ok((rows, skipped))
-}
-
-/// How many bytes were copied in all rounds.
-fn copy(alloc: Global, input: &[u8], rounds: u32) -> Result<u64> {
-    let mut place = Vec::with_capacity(alloc, input.len())?;
-    let mut copied = 0u64;
-    for _round in 0..rounds {
-        place.clear();
-        place.extend_from_slice(input)?;
-        copied = copied.saturating_add(place.len() as u64);
-    }
-    Ok(copied)
 }

@@ -1,52 +1,43 @@
 //! Queries, cut into tokens, read, printed and checked.
 
-use anyhow::Result;
+use crate::Counts;
 use mql_expr::{check, print};
 use mql_lex::tokens;
 use mql_parse::parse;
-use std::alloc::Global;
+use std::alloc::{AllocError, Global};
 
-/// What came of the lines of an input, in all rounds.
-#[derive(Drop)]
-pub(crate) struct Counts {
-    /// How many lines are queries.
-    pub(crate) queries: u64,
-    /// How many of these have no fault.
-    pub(crate) right: u64,
-    /// How many bytes their canonical texts have.
-    pub(crate) bytes: u64,
-}
-
-/// Reads each line as a query, prints it and checks it.
-pub(crate) fn read_and_print(alloc: Global, input: &str, rounds: u32) -> Result<Counts> {
-    let mut counts = Counts {
-        queries: 0,
-        right: 0,
-        bytes: 0,
-    };
+/// Reads each line as a query, prints it and checks it, in all rounds. Gives how many lines are queries, how many of
+/// these have no fault, and how many bytes their canonical texts have. An input that isn't UTF-8 has none.
+pub(crate) fn read_and_print(
+    alloc: Global,
+    input: &[u8],
+    rounds: u32,
+) -> Result<Counts, AllocError> {
+    let (mut queries, mut right, mut bytes) = (0u64, 0u64, 0u64);
     let mut text = Vec::new(alloc);
     for _round in 0..rounds {
-        for line in input.lines() {
+        for line in str::from_utf8(input).unwrap_or("").lines() {
             text.clear();
-            count(alloc, line, &mut text, &mut counts)?;
+            let (is_query, is_right) = query(alloc, line, &mut text)?;
+            queries = queries.saturating_add(u64::from(is_query));
+            right = right.saturating_add(u64::from(is_right));
+            bytes = bytes.saturating_add(text.len() as u64);
         }
     }
-    Ok(counts)
+    Ok(Vec::from_array(
+        alloc,
+        [("queries", queries), ("right", right), ("bytes", bytes)],
+    )?)
 }
 
-/// Counts what came of a line. Its canonical text is appended to `out`.
-fn count(alloc: Global, line: &str, out: &mut Vec<u8>, counts: &mut Counts) -> Result<()> {
+/// Whether a line is a query, and one without a fault. Its canonical text is appended to `out`.
+fn query(alloc: Global, line: &str, out: &mut Vec<u8>) -> Result<(bool, bool), AllocError> {
     let Ok(cut) = tokens(alloc, line) else {
-        return Ok(());
+        return Ok((false, false));
     };
     let Ok(query) = parse(alloc, line, cut.as_slice()) else {
-        return Ok(());
+        return Ok((false, false));
     };
     print(&query, out)?;
-    counts.queries = counts.queries.saturating_add(1);
-    counts.bytes = counts.bytes.saturating_add(out.len() as u64);
-    if check(&query).is_ok() {
-        counts.right = counts.right.saturating_add(1);
-    }
-    Ok(())
+    Ok((true, check(&query).is_ok()))
 }
