@@ -106,14 +106,7 @@ fn is_stream(alloc: Global, row: &str) -> Result<bool, AllocError> {
             let mut source = MemSource::in_pieces(bytes, most, failing);
             Ok(given_by(alloc, &mut source)?.as_slice() == due.as_bytes())
         }
-        "sink" => {
-            let mut sink = MemSink::in_pieces(alloc, most, failing);
-            let due = match write_all(&mut sink, b"abcdef") {
-                Ok(()) => due,
-                Err(Failed) => due.strip_suffix("|").unwrap_or("no failure"),
-            };
-            Ok(sink.bytes() == due.as_bytes())
-        }
+        "sink" => Ok(is_taken(&mut MemSink::in_pieces(alloc, most, failing), due)),
         _ => Ok(false),
     }
 }
@@ -130,6 +123,15 @@ fn given_by<S: Source>(alloc: Global, source: &mut S) -> Result<Vec<u8>, AllocEr
         }
     }
     Ok(told)
+}
+
+/// Whether this is what a sink takes of `abcdef`.
+fn is_taken(sink: &mut MemSink, due: &str) -> bool {
+    let due = match write_all(sink, b"abcdef") {
+        Ok(()) => due,
+        Err(Failed) => due.strip_suffix("|").unwrap_or("no failure"),
+    };
+    sink.bytes() == due.as_bytes()
 }
 
 /// The bytes come in order whatever the pieces are, and a call that fails loses none. `write_all` goes on until

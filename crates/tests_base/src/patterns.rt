@@ -3,6 +3,7 @@
 use crate::base::text_of;
 use std::alloc::{AllocError, Global};
 use test_rows::bytes_of;
+use vm_base::{List, Text};
 use vm_outside::{Pattern, PatternFault, Patterns};
 use vm_patterns::MemPatterns;
 
@@ -65,14 +66,16 @@ fn match_of<P: Pattern>(
     value: &str,
 ) -> Result<Vec<u8>, AllocError> {
     let whole = pattern.whole(value)?;
-    let mut told = Vec::new(alloc);
-    let Some(groups) = pattern.groups(value)? else {
-        told.extend_from_slice(if whole { b"groups are missing" } else { b"no" })?;
-        return Ok(told);
-    };
-    if !whole {
-        told.extend_from_slice(b"groups without a match")?;
+    match (whole, pattern.groups(value)?) {
+        (true, Some(groups)) => texts(alloc, &groups),
+        (true, None) => Vec::from_slice(alloc, b"groups are missing"),
+        (false, Some(_)) => Vec::from_slice(alloc, b"groups without a match"),
+        (false, None) => Vec::from_slice(alloc, b"no"),
     }
+}
+
+fn texts(alloc: Global, groups: &List<Text>) -> Result<Vec<u8>, AllocError> {
+    let mut told = Vec::new(alloc);
     for group in groups.as_slice() {
         told.push(b';')?;
         told.extend_from_slice(group.as_str().as_bytes())?;

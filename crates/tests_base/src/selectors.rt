@@ -53,8 +53,11 @@ fn is_right(alloc: Global, patterns: &mut MemPatterns, row: &str) -> Result<bool
         return Ok(false);
     };
     match Matcher::build(alloc, &selector, patterns) {
-        Ok(matcher) if matcher.selector().lists.len() != selector.lists.len() => Ok(false),
-        Ok(matcher) => is_answer::<Brand>(matcher, &labels, due, Blank::new(1)),
+        Ok(mut matcher) => {
+            let kept = matcher.selector().lists.len() == selector.lists.len();
+            let right = is_answer::<Brand>(&mut matcher, &labels, due, Blank::new(1))?;
+            Ok(kept && right)
+        }
         Err(MatchFault::BadPattern { text }) => Ok(due.strip_prefix("bad ") == Some(text.as_str())),
         Err(MatchFault::PatternRefused { text }) => {
             Ok(due.strip_prefix("refused ") == Some(text.as_str()))
@@ -64,7 +67,7 @@ fn is_right(alloc: Global, patterns: &mut MemPatterns, row: &str) -> Result<bool
 }
 
 fn is_answer<L: Ledger>(
-    mut matcher: Matcher<MemPattern>,
+    matcher: &mut Matcher<MemPattern>,
     labels: &Labels,
     due: &str,
     blank: Blank,
@@ -80,7 +83,9 @@ fn is_answer<L: Ledger>(
 
 fn selector_of(alloc: Global, text: &str) -> Result<Selector, AllocError> {
     let mut lists = List::new(alloc);
-    for filters in text.split('{').skip(1) {
+    let mut parts = text.split('{');
+    let _before = parts.next();
+    for filters in parts {
         lists.push(filters_of(alloc, filters)?)?;
     }
     Ok(Selector { lists })
