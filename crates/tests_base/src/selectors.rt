@@ -10,7 +10,8 @@ use std::sync::ledger::{Blank, Ledger};
 use vm_base::{List, Steps, Text};
 use vm_labels::{Filter, FilterOp, Labels, Selector};
 use vm_match::{MatchFault, Matcher};
-use vm_patterns::{MemPattern, MemPatterns};
+use vm_outside::Pattern;
+use vm_patterns::MemPatterns;
 
 /// Selectors, and what a matcher of each tells of `{job="x"}`. A list begins with `{`, and its filters are
 /// parted by commas. The builder takes no text that begins with `(`, and it refuses its twelfth call,
@@ -55,7 +56,7 @@ fn is_right(alloc: Global, patterns: &mut MemPatterns, row: &str) -> Result<bool
     match Matcher::build(alloc, &selector, patterns) {
         Ok(mut matcher) => {
             let kept = matcher.selector().lists.len() == selector.lists.len();
-            let right = is_answer::<Brand>(&mut matcher, &labels, due, Blank::new(1))?;
+            let right = is_answer::<Brand, _>(&mut matcher, &labels, due, Blank::new(1))?;
             Ok(kept && right)
         }
         Err(MatchFault::BadPattern { text }) => Ok(due.strip_prefix("bad ") == Some(text.as_str())),
@@ -66,8 +67,8 @@ fn is_right(alloc: Global, patterns: &mut MemPatterns, row: &str) -> Result<bool
     }
 }
 
-fn is_answer<L: Ledger>(
-    matcher: &mut Matcher<MemPattern>,
+fn is_answer<L: Ledger, M: Pattern>(
+    matcher: &mut Matcher<M>,
     labels: &Labels,
     due: &str,
     blank: Blank,
