@@ -1,5 +1,5 @@
 #!/usr/bin/env python3
-"""The rows of crates/vm_decimal/src/arithmetic_rows.rt, worked out by Python's fractions.
+"""The rows of crates/tests_base/src/arithmetic_rows.rt, worked out by Python's fractions.
 
 Prints the file. Numbers are taken as exact fractions, and a result is written as `Dec::print` writes it, or as
 `range` or `none`. Takes no words.
@@ -184,7 +184,7 @@ def rows():
 print("//! Calculations and their results, as `bench/decimals_table.py` works them out with Python's `fractions`.")
 print()
 print("/// A number, what is done with it, another number, and the text of the result, a row a line.")
-print('pub(crate) const ROWS: &str = "\\')
+print('pub(crate) const CALCULATIONS: &str = "\\')
 for op, a, b in rows():
     assert answer(number(a)) != "range" and answer(number(b)) != "range", (a, b)
     print(f"{a} {op} {b} = {result(op, a, b)}")

@@ -18,14 +18,10 @@ mod boxed;
 mod broken;
 pub mod limits;
 mod list;
-#[cfg(test)]
-mod number_tests;
 mod sample;
 mod sizes;
 mod stamped;
 mod steps;
-#[cfg(test)]
-mod tests;
 mod text;
 
 pub use boxed::Boxed;

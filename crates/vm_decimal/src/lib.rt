@@ -14,10 +14,6 @@
 //! and on `arrayvec` for a text of bounded length.
 #![tactic(auto)]
 
-#[cfg(test)]
-mod arithmetic_rows;
-#[cfg(test)]
-mod arithmetic_tests;
 mod dec;
 mod dec_text;
 mod division;
@@ -32,11 +28,7 @@ mod product;
 mod quick;
 mod reader;
 mod sample_text;
-#[cfg(test)]
-mod sample_text_tests;
 mod sum;
-#[cfg(test)]
-mod tests;
 mod whole;
 mod words;
 

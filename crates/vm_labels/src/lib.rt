@@ -22,8 +22,6 @@ mod name;
 mod pair;
 mod row;
 mod selector;
-#[cfg(test)]
-mod tests;
 mod text;
 
 pub use bytes::{no_set_begins_another, what_is_read_is_written, what_is_written_is_read};

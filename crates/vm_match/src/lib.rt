@@ -14,11 +14,7 @@ mod build;
 mod copy;
 mod fault;
 mod matcher;
-#[cfg(test)]
-mod plain;
 mod test;
-#[cfg(test)]
-mod tests;
 
 pub use fault::MatchFault;
 pub use matcher::Matcher;

@@ -16,8 +16,6 @@
 mod clock;
 mod disk;
 mod disk_call;
-#[cfg(test)]
-mod disk_tests;
 mod failed;
 mod failing_calls;
 mod files;
@@ -33,8 +31,6 @@ mod no_patterns;
 mod patterns;
 mod sink;
 mod source;
-#[cfg(test)]
-mod tests;
 mod unsynced;
 mod writing;
 

@@ -8,8 +8,6 @@
 
 mod mem_pattern;
 mod mem_patterns;
-#[cfg(test)]
-mod tests;
 
 pub use mem_pattern::MemPattern;
 pub use mem_patterns::MemPatterns;

@@ -1,7 +1,7 @@
 //! Calculations and their results, as `bench/decimals_table.py` works them out with Python's `fractions`.
 
 /// A number, what is done with it, another number, and the text of the result, a row a line.
-pub(crate) const ROWS: &str = "\
+pub(crate) const CALCULATIONS: &str = "\
 0.1 + 0.2 = 0.3
 1e38 + 0.5 = range
 5 + 5 = 10
