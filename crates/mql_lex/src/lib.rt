@@ -20,8 +20,6 @@ mod operator;
 mod phase;
 mod piece;
 mod span;
-#[cfg(test)]
-mod tests;
 mod token;
 
 pub use fault::LexFault;

@@ -21,8 +21,6 @@ mod names;
 mod params;
 mod progress;
 mod role;
-#[cfg(test)]
-mod tests;
 mod word;
 
 pub use braces::BracesReader;

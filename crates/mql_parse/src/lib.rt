@@ -10,27 +10,19 @@
 
 mod duration;
 mod fault;
-#[cfg(test)]
-mod fault_rows;
 mod joining;
 mod laws;
-#[cfg(test)]
-mod limit_tests;
 mod measuring;
 mod naming;
 mod opening;
 mod operand;
 mod parse_fault;
 mod parser;
-#[cfg(test)]
-mod query_rows;
 mod reducing;
 mod stack;
 mod state;
 mod step;
 mod templating;
-#[cfg(test)]
-mod tests;
 mod wanted;
 
 pub use laws::{

@@ -1,9 +1,12 @@
 //! How the tables of tests write bytes as text. It stands on std alone, and only crates of tests use it.
 //!
 //! A table is one text, with a row a line. What a line can't hold is escaped, and `bytes_of` gives the
-//! bytes that are meant.
+//! bytes that are meant. `repeated` also takes a text in which a piece stands many times.
 #![tactic(auto)]
 
+mod repeats;
+
+pub use repeats::repeated;
 use std::alloc::{AllocError, Global};
 
 /// What the next byte of a text is part of.

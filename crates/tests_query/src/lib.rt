@@ -2,3 +2,14 @@
 //!
 //! Each file has the tables of one crate. `test_rows` reads what their rows write.
 #![tactic(auto)]
+
+#[cfg(test)]
+mod fault_rows;
+#[cfg(test)]
+mod lex;
+#[cfg(test)]
+mod lists;
+#[cfg(test)]
+mod queries;
+#[cfg(test)]
+mod query_rows;

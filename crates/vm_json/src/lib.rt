@@ -13,8 +13,6 @@ mod nesting;
 mod phase;
 mod reader;
 mod string_machine;
-#[cfg(test)]
-mod tests;
 
 pub use nesting::MAX_NESTING;
 pub use reader::first_wrong;

@@ -15,15 +15,11 @@
 #![tactic(auto)]
 
 mod line;
-#[cfg(test)]
-mod line_rows;
 mod parts;
 mod print;
 mod series;
 mod stop;
 mod strings;
-#[cfg(test)]
-mod tests;
 mod values;
 
 pub use line::{JsonLine, read_line};

@@ -15,8 +15,6 @@ mod feed;
 mod held;
 mod reader;
 mod step;
-#[cfg(test)]
-mod tests;
 
 pub use fault::LineFault;
 pub use reader::LineReader;

@@ -42,8 +42,16 @@ impl LineReader {
     pub fn new(alloc: Global) -> Result<LineReader, AllocError>
         ensures { IfOk result (λ reader. reader ≡ record { line = []; ahead = []; taken = 0 }) }
     {
+        LineReader::after(alloc, 0)
+    }
+
+    /// A reader of what follows the first `taken` bytes of an input, which count as taken. Its line is empty.
+    pub fn after(alloc: Global, taken: u64) -> Result<LineReader, AllocError>
+        requires { taken ≤ 2 ^ 62 }
+        ensures { IfOk result (λ reader. reader ≡ record { line = []; ahead = []; taken = taken }) }
+    {
         let held = Held::new(alloc)?;
-        Ok(LineReader { held, taken: 0 })
+        Ok(LineReader { held, taken })
     }
 
     /// The line that `advance` came to, without its line feed and carriage return. What it shows after
@@ -253,34 +261,4 @@ fn first(bytes: &[u8], len: usize) -> &[u8]
     ensures { result.now ≡ take len bytes.now }
 {
     &bytes[..len]
-}
-
-#[cfg(test)]
-mod tests {
-    use super::*;
-    use std::test::Fail;
-    use vm_outside::MemSource;
-
-    /// With three bytes to go to the limit, a reader shows the lines in them, and comes to the end only
-    /// where it meets the end before the limit.
-    #[test]
-    fn at_the_limit(rt: HostRuntime) -> Result<(), Fail> {
-        let alloc = rt.alloc();
-        for (text, want) in [
-            ("ab\n", [Ok(Step::Line), Err(LineFault::InputTooLong)]),
-            ("ab\ncd", [Ok(Step::Line), Err(LineFault::InputTooLong)]),
-            ("\nab", [Ok(Step::Line), Err(LineFault::InputTooLong)]),
-            ("ab", [Ok(Step::Line), Ok(Step::End)]),
-            ("a\n", [Ok(Step::Line), Ok(Step::End)]),
-        ] {
-            let mut input = MemSource::steady(alloc, Vec::from_slice(alloc, text.as_bytes())?);
-            let held = Held::new(alloc)?;
-            let taken = MAX_INPUT - 3;
-            let mut reader = LineReader { held, taken };
-            for step in want {
-                assert_eq!(rt; reader.advance(&mut input), step, "{text:?}");
-            }
-        }
-        Ok(())
-    }
 }

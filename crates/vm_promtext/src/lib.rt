@@ -19,8 +19,6 @@ mod line;
 mod quoted;
 mod row;
 mod stop;
-#[cfg(test)]
-mod tests;
 mod tokens;
 mod utf8;
 

@@ -11,8 +11,6 @@
 mod command;
 mod expression;
 mod number;
-#[cfg(test)]
-mod tests;
 
 pub use command::{Command, Format, is_body_end, read_command};
 pub use expression::read_selector;
