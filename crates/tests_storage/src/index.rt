@@ -67,16 +67,32 @@ UP|UP_POSTINGS^29|1 postings 22
 UP|UP_POSTINGS^30|1 postings 30
 UP|UP_POSTINGS^37|1 postings 30";
 
-/// The bytes of a word of a row of tables.
-fn bytes_in(alloc: Global, word: &str) -> Result<Vec<u8>, AllocError> {
-    let (name, turned) = word.split_once('^').unwrap_or((word, ""));
-    let mut bytes = match name {
-        "UP" => bytes_of(alloc, UP)?,
-        "UP_POSTINGS" => bytes_of(alloc, UP_POSTINGS)?,
-        "TWO" => bytes_of(alloc, TWO)?,
-        "TWO_POSTINGS" => bytes_of(alloc, TWO_POSTINGS)?,
-        _ => bytes_of(alloc, name)?,
-    };
+/// A name and a value, and the ordinals of the sets of `TWO` that are found.
+const LOOKUPS: &str = r"__name__|a|0 1
+i|2|1
+i|3|
+i||";
+
+/// A name and the values that the sets of `TWO` have of it; without a name, the names that they have.
+const LISTS: &str = r"|__name__ i
+i|1 2
+j|";
+
+/// The text of the constant that a word names, or else the word.
+fn named(word: &str) -> &str {
+    match word {
+        "UP" => UP,
+        "UP_POSTINGS" => UP_POSTINGS,
+        "TWO" => TWO,
+        "TWO_POSTINGS" => TWO_POSTINGS,
+        _ => word,
+    }
+}
+
+/// The bytes of a cell of a row of tables.
+fn bytes_in(alloc: Global, cell: &str) -> Result<Vec<u8>, AllocError> {
+    let (name, turned) = cell.split_once('^').unwrap_or((cell, ""));
+    let mut bytes = bytes_of(alloc, named(name))?;
     if let Ok(at) = turned.parse::<usize>() {
         if let Some(byte) = bytes.get_mut(at) {
             *byte ^= 0x80;
@@ -159,19 +175,43 @@ fn are(texts: &List<Text>, due: &str) -> bool {
     due.next().is_none()
 }
 
+/// Whether the ordinals of a row are found.
+fn is_found(index: &Index, row: &str) -> bool {
+    let Some((name, value, due)) = cells(row) else {
+        return false;
+    };
+    let mut due = due.split_whitespace();
+    for ordinal in index.lookup(name, value) {
+        let Some(word) = due.next() else {
+            return false;
+        };
+        if word.parse().ok() != Some(*ordinal) {
+            return false;
+        }
+    }
+    due.next().is_none()
+}
+
+/// Whether the names of the index, or the values of a name, are those of a row.
+fn is_listed(alloc: Global, index: &Index, row: &str) -> Result<bool, AllocError> {
+    match row.split_once('|') {
+        Some(("", due)) => Ok(are(&index.names(alloc)?, due)),
+        Some((name, due)) => Ok(are(&index.values(alloc, name)?, due)),
+        None => Ok(false),
+    }
+}
+
 #[test]
 fn labels_are_looked_up(rt: HostRuntime) -> Result<(), Fail> {
-    let alloc = rt.alloc();
-    let table = bytes_of(alloc, TWO)?;
-    let postings = bytes_of(alloc, TWO_POSTINGS)?;
-    let index = Index::read(alloc, &table, &postings, 2)?;
-    assert!(rt; index.lookup("__name__", "a") == [0, 1].as_slice());
-    assert!(rt; index.lookup("i", "2") == [1].as_slice());
-    assert!(rt; index.lookup("i", "3").is_empty());
-    assert!(rt; index.lookup("i", "").is_empty());
-    assert!(rt; are(&index.names(alloc)?, "__name__ i"));
-    assert!(rt; are(&index.values(alloc, "i")?, "1 2"));
-    assert!(rt; are(&index.values(alloc, "j")?, ""));
+    let table = bytes_of(rt.alloc(), TWO)?;
+    let postings = bytes_of(rt.alloc(), TWO_POSTINGS)?;
+    let index = Index::read(rt.alloc(), &table, &postings, 2)?;
+    for row in LOOKUPS.lines() {
+        assert!(rt; is_found(&index, row), "{row}");
+    }
+    for row in LISTS.lines() {
+        assert!(rt; is_listed(rt.alloc(), &index, row)?, "{row}");
+    }
     Ok(())
 }
 
