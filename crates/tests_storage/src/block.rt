@@ -1,4 +1,6 @@
 //! Blocks and their samples, which a few lines of Python gave by the format's description.
+ghost use Rattle.std.specs.Prelude.{IfOk};
+ghost use Rattle.vm_block.specs.Header.{IsHeader};
 
 use crate::rows::{cells, numbers, placed, samples};
 use std::alloc::{AllocError, Global};
@@ -107,7 +109,9 @@ const BLOCKS: &str =
 type Outcome = (u8, u64);
 
 /// The header of a block, or why there is none.
-pub(crate) fn header_of(bytes: &[u8]) -> Result<BlockHeader, Outcome> {
+pub(crate) fn header_of(bytes: &[u8]) -> Result<BlockHeader, Outcome>
+    ensures { IfOk result IsHeader }
+{
     if bytes.len() < 40 {
         return Err((b'L', 0));
     }
