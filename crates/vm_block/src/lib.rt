@@ -19,8 +19,6 @@ mod header;
 mod laws;
 mod samples;
 mod shared;
-#[cfg(test)]
-mod tests;
 
 pub use cutting::cut;
 pub use decode::decode_block;

@@ -16,8 +16,6 @@ mod coding;
 mod integer;
 mod laws;
 mod reading;
-#[cfg(test)]
-mod tests;
 mod writing;
 mod zigzag;
 

@@ -14,8 +14,6 @@
 
 mod dedup;
 mod laws;
-#[cfg(test)]
-mod tests;
 
 pub use dedup::Dedup;
 pub use laws::last_of_each_interval;

@@ -22,8 +22,6 @@ mod names;
 mod numbers;
 mod posting;
 mod read;
-#[cfg(test)]
-mod tests;
 
 pub use fault::IndexFault;
 pub use index::Index;

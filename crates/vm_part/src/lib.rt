@@ -19,8 +19,6 @@ mod entries;
 mod entry;
 mod fault;
 mod fields;
-#[cfg(test)]
-mod file_tests;
 mod footer;
 mod laws;
 mod limits;
@@ -31,8 +29,6 @@ mod part;
 mod reader;
 mod reading;
 mod series;
-#[cfg(test)]
-mod tests;
 mod writer;
 
 pub use entry::Entry;

@@ -15,8 +15,6 @@
 mod groups;
 mod laws;
 mod series;
-#[cfg(test)]
-mod tests;
 
 pub use groups::gather;
 pub use laws::{each_series_is_in_order, series_have_what_is_seen};
