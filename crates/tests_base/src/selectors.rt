@@ -55,9 +55,11 @@ fn is_right(alloc: Global, patterns: &mut MemPatterns, row: &str) -> Result<bool
     };
     match Matcher::build(alloc, &selector, patterns) {
         Ok(mut matcher) => {
-            let kept = matcher.selector().lists.len() == selector.lists.len();
-            let right = is_answer::<Brand, _>(&mut matcher, &labels, due, Blank::new(1))?;
-            Ok(kept && right)
+            if matcher.selector().lists.len() != selector.lists.len() {
+                return Ok(false);
+            }
+            let answer = answer_of(selects::<Brand, _>(&mut matcher, &labels, Blank::new(1))?);
+            Ok(due == answer)
         }
         Err(MatchFault::BadPattern { text }) => Ok(due.strip_prefix("bad ") == Some(text.as_str())),
         Err(MatchFault::PatternRefused { text }) => {
@@ -67,10 +69,13 @@ fn is_right(alloc: Global, patterns: &mut MemPatterns, row: &str) -> Result<bool
     }
 }
 
-fn is_answer<L: Ledger, M: Pattern>(
+fn answer_of(selected: bool) -> &'static str {
+    if selected { "yes" } else { "no" }
+}
+
+fn selects<L: Ledger, M: Pattern>(
     matcher: &mut Matcher<M>,
     labels: &Labels,
-    due: &str,
     blank: Blank,
 ) -> Result<bool, AllocError>
     requires name { blank.name ≡ L.name }
@@ -78,8 +83,7 @@ fn is_answer<L: Ledger, M: Pattern>(
     requires some { 0 < blank.parts }
 {
     let mut steps = Steps::<L>::open(blank);
-    let selected = matcher.selects(labels, &mut steps)?;
-    Ok(due == if selected { "yes" } else { "no" })
+    matcher.selects(labels, &mut steps)
 }
 
 fn selector_of(alloc: Global, text: &str) -> Result<Selector, AllocError> {

@@ -5,6 +5,13 @@ use std::alloc::{AllocError, Global};
 use std::cmp::Ordering;
 use vm_decimal::{Dec, read};
 
+#[derive(Clone, Copy)]
+enum Operation {
+    Add,
+    Multiply,
+    Divide,
+}
+
 /// Calls the operation on each pair, in all rounds, and gives how many calls had an answer that counts: a number, a
 /// pair that rises, or a byte that is written. Nothing where no operation has this name.
 pub(crate) fn calculate(
@@ -18,14 +25,9 @@ pub(crate) fn calculate(
         "read" => read_all(alloc, input, rounds)?,
         "print" => print_all(alloc, &pairs, rounds)?,
         "compare" => compare_all(&pairs, rounds),
-        "add" => results(alloc, &pairs, rounds, |one, two| one.add(two).ok())?,
-        "mul" => results(alloc, &pairs, rounds, |one, two| one.mul(two).ok())?,
-        "quot9" => results(
-            alloc,
-            &pairs,
-            rounds,
-            |one, two| one.quot9(two).unwrap_or(None),
-        )?,
+        "add" => results(alloc, &pairs, rounds, Operation::Add)?,
+        "mul" => results(alloc, &pairs, rounds, Operation::Multiply)?,
+        "quot9" => results(alloc, &pairs, rounds, Operation::Divide)?,
         _ => return Ok(Vec::new(alloc)),
     };
     Ok(Vec::from_array(alloc, [("counted", counted)])?)
@@ -45,17 +47,25 @@ fn pairs(alloc: Global, input: &[u8]) -> Result<Vec<(Dec, Dec)>, AllocError> {
     Ok(pairs)
 }
 
+fn result(operation: Operation, one: Dec, two: Dec) -> Option<Dec> {
+    match operation {
+        Operation::Add => one.add(two).ok(),
+        Operation::Multiply => one.mul(two).ok(),
+        Operation::Divide => one.quot9(two).unwrap_or(None),
+    }
+}
+
 /// Keeps each result in a place of its own, so that none is left out.
 fn results(
     alloc: Global,
     pairs: &[(Dec, Dec)],
     rounds: u32,
-    operation: impl Fn(Dec, Dec) -> Option<Dec>,
+    operation: Operation,
 ) -> Result<u64, AllocError> {
     let mut places = vec![in alloc; None; pairs.len()]?;
     for _round in 0..rounds {
         for (place, (one, two)) in places.iter_mut().zip(pairs) {
-            *place = operation(*one, *two);
+            *place = result(operation, *one, *two);
         }
     }
     Ok(places.iter().filter(|place| place.is_some()).count() as u64)

@@ -5,7 +5,7 @@ use std::alloc::{AllocError, Global};
 use std::rc::Rc;
 use std::time::Clock;
 use vm_base::List;
-use vm_labels::Batch;
+use vm_labels::{Batch, Row};
 use vm_outside::MemDisk;
 use vm_part::{MemPart, PartReader, are_within_limits, open_part};
 use vm_promtext::{Line, read_line};
@@ -92,12 +92,12 @@ fn parts<C: Clock>(
     Ok((parts, took))
 }
 
-/// The rows of the lines, of which each has this time.
+/// The rows of the lines, each at this time.
 fn batch(alloc: Global, input: &[u8], time: u64) -> Result<Batch, AllocError> {
     let mut rows = List::new(alloc);
     for line in input.split(|byte| *byte == b'\n') {
-        if let Line::Row(row) = read_line(alloc, line, time)? {
-            rows.push(row)?;
+        if let Line::Row(row) = read_line(alloc, line, 0)? {
+            rows.push(Row { time, ..row })?;
         }
     }
     Ok(Batch { rows })
