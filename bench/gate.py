@@ -63,18 +63,21 @@ def words_of(pid):
 
 
 def kind_of(pid):
-    """Returns the crate and the phase that a child of rt works for, if it can be told yet."""
+    """Returns the crate and the phase that a child of rt works for, as far as it can be told yet."""
     words = words_of(pid)
     after = lambda word: words[words.index(word) + 1] if word in words else ""
-    if len(words) > 1 and words[0].endswith("/rattle") and words[1] in ("build", "check"):
-        if words[1] == "build":
-            return after("--crate-name"), "tests" if "--test" in words else "proof"
-        return after("--crate-name"), "begin" if after("--incremental").endswith("/seed") else "edits"
     try:
-        at = re.search(r"/crates/(\w+)", " ".join([os.readlink(f"/proc/{pid}/cwd"), *words]))
+        folder = os.readlink(f"/proc/{pid}/cwd")
     except OSError:
         return None
-    return (at[1], "run") if at and words and not words[0].endswith(("python3", "/rt")) else None
+    at = re.search(r"/crates/(\w+)", folder)
+    if "--crate-name" not in words:
+        return (at[1], "run") if at else None
+    if "--test" in words:
+        return after("--crate-name"), "tests"
+    if "/rt-edit-" not in folder:
+        return after("--crate-name"), "proof"
+    return after("--crate-name"), "begin" if after("--incremental").endswith("/seed") else "edits"
 
 
 class Seen:
@@ -93,16 +96,17 @@ class Seen:
 
         for pid in below.get(self.root, ()):
             key = pid, found[pid][2]
-            if key not in self.kinds or self.kinds[key] is None:
-                self.kinds[key] = kind_of(pid)
+            # (a process is seen before it became what rt begins)
+            if self.kinds.get(key, (None, "run"))[1] == "run":
+                self.kinds[key] = kind_of(pid) or self.kinds.get(key, (None, "run"))
             self.ticks[key] = max(self.ticks.get(key, 0), whole(pid))
 
     def table(self):
         """Returns the minutes by crate and phase."""
         minutes = {}
         for key, ticks in self.ticks.items():
-            if self.kinds[key]:
-                crate, phase = self.kinds[key]
+            crate, phase = self.kinds[key]
+            if crate:
                 of = minutes.setdefault(crate, dict.fromkeys(PHASES, 0.0))
                 of[phase] += ticks / TICKS / 60
         return minutes

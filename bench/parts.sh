@@ -32,8 +32,8 @@ done | awk '
     {
         n = ($2 == 50000 ? 1 : 2)
         series[n] = $2
-        bytes[n] = $4
-        for (i = 7; i < NF; i += 2) {
+        for (i = 3; i < NF; i += 2) {
+            if ($i == "bytes") bytes[n] = $(i + 1)
             seconds = $(i + 1) / 1e6 / ($i == "copy" ? 100 : 1)
             if (!(($i, n) in took) || seconds < took[$i, n]) took[$i, n] = seconds
         }

@@ -1,7 +1,6 @@
 //! Blocks written, read, and copied as samples.
 ghost use Rattle.vm_block.specs.Cut.{AreOneBlock};
 
-use crate::Counts;
 use std::alloc::{AllocError, Global};
 use vm_base::{Sample, Stamped};
 use vm_block::{are_one_block, cut, decode_block, encode_block, read_header};
@@ -21,17 +20,17 @@ pub(crate) fn run(
     name: &str,
     kind: &str,
     rounds: u32,
-) -> Result<Counts, AllocError> {
+) -> Result<String, AllocError> {
     let samples = series(alloc, kind)?;
     if samples.is_empty() {
-        return Ok(Vec::new(alloc));
+        return Ok(String::new(alloc));
     }
     let mut bytes = 0u64;
     for block in cut(alloc, &samples)?.as_slice() {
         bytes = bytes.saturating_add(on_block(alloc, name, block.as_slice(), rounds)?);
     }
     let moved = (samples.len() as u64).saturating_mul(u64::from(rounds));
-    Ok(Vec::from_array(alloc, [("samples", moved), ("bytes", bytes)])?)
+    format!(in alloc; "samples {moved} bytes {bytes}")
 }
 
 /// Calls what the name says on a block, so many times, and gives the bytes of all.

@@ -1,6 +1,5 @@
 //! The calls of `vm_decimal`, over pairs of numbers that stand on a line each.
 
-use crate::Counts;
 use std::alloc::{AllocError, Global};
 use std::cmp::Ordering;
 use vm_decimal::{Dec, read};
@@ -19,7 +18,7 @@ pub(crate) fn calculate(
     input: &[u8],
     operation: &str,
     rounds: u32,
-) -> Result<Counts, AllocError> {
+) -> Result<String, AllocError> {
     let pairs = pairs(alloc, input)?;
     let counted = match operation {
         "read" => read_all(alloc, input, rounds)?,
@@ -28,9 +27,9 @@ pub(crate) fn calculate(
         "add" => results(alloc, &pairs, rounds, Operation::Add)?,
         "mul" => results(alloc, &pairs, rounds, Operation::Multiply)?,
         "quot9" => results(alloc, &pairs, rounds, Operation::Divide)?,
-        _ => return Ok(Vec::new(alloc)),
+        _ => return Ok(String::new(alloc)),
     };
-    Ok(Vec::from_array(alloc, [("counted", counted)])?)
+    format!(in alloc; "counted {counted}")
 }
 
 /// The numbers of each line that has two.

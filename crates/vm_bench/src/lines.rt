@@ -1,6 +1,5 @@
 //! Lines of the text format, read, and bytes copied.
 
-use crate::Counts;
 use std::alloc::{AllocError, Global};
 use vm_promtext::{Line, read_line};
 
@@ -8,7 +7,7 @@ use vm_promtext::{Line, read_line};
 const NOW: u64 = 1_700_000_000_000;
 
 /// How many rows the lines hold, and how many lines are skipped, in all rounds.
-pub(crate) fn read_all(alloc: Global, input: &[u8], rounds: u32) -> Result<Counts, AllocError> {
+pub(crate) fn read_all(alloc: Global, input: &[u8], rounds: u32) -> Result<String, AllocError> {
     let mut rows = 0u64;
     let mut skipped = 0u64;
     for _round in 0..rounds {
@@ -20,11 +19,11 @@ pub(crate) fn read_all(alloc: Global, input: &[u8], rounds: u32) -> Result<Count
             }
         }
     }
-    Ok(Vec::from_array(alloc, [("rows", rows), ("skipped", skipped)])?)
+    format!(in alloc; "rows {rows} skipped {skipped}")
 }
 
 /// How many bytes were copied in all rounds.
-pub(crate) fn copy(alloc: Global, input: &[u8], rounds: u32) -> Result<Counts, AllocError> {
+pub(crate) fn copy(alloc: Global, input: &[u8], rounds: u32) -> Result<String, AllocError> {
     let mut place = Vec::with_capacity(alloc, input.len())?;
     let mut copied = 0u64;
     for _round in 0..rounds {
@@ -32,5 +31,5 @@ pub(crate) fn copy(alloc: Global, input: &[u8], rounds: u32) -> Result<Counts, A
         place.extend_from_slice(input)?;
         copied = copied.saturating_add(place.len() as u64);
     }
-    Ok(Vec::from_array(alloc, [("bytes", copied)])?)
+    format!(in alloc; "bytes {copied}")
 }

@@ -28,9 +28,6 @@ use std::env;
 use std::io::Read;
 use std::time::Clock;
 
-/// What is printed: numbers with their names.
-type Counts = Vec<(&'static str, u64)>;
-
 fn main(rt: HostRuntime) -> Result<()> {
     let alloc = rt.alloc();
     let mut input = Vec::new(alloc);
@@ -45,28 +42,23 @@ fn main(rt: HostRuntime) -> Result<()> {
         _ => bail!("usage"),
     };
     let rounds = rounds.parse::<u32>()?;
-    let counts = counts(&rt, alloc, call, kind, &input, rounds)?;
-    if counts.is_empty() {
+    let told = told(&rt, alloc, call, kind, &input, rounds)?;
+    if told.is_empty() {
         bail!("usage");
     }
-    let mut blank = "";
-    for (name, number) in counts {
-        print!(rt; "{blank}{name} {number}")?;
-        blank = " ";
-    }
-    println!(rt; "")?;
+    println!(rt; "{told}")?;
     Ok(())
 }
 
 /// What so many calls come to. Nothing where no call has these words.
-fn counts<C: Clock>(
+fn told<C: Clock>(
     clock: &C,
     alloc: Global,
     call: &str,
     kind: &str,
     input: &[u8],
     rounds: u32,
-) -> Result<Counts, AllocError> {
+) -> Result<String, AllocError> {
     match call {
         "promtext" => lines::read_all(alloc, input, rounds),
         "copy" => lines::copy(alloc, input, rounds),
@@ -74,6 +66,6 @@ fn counts<C: Clock>(
         "parts" => parts::run(clock, alloc, input, rounds),
         "decimals" => decimals::calculate(alloc, input, kind, rounds),
         "encode" | "decode" | "move" => blocks::run(alloc, call, kind, rounds),
-        _ => Ok(Vec::new(alloc)),
+        _ => Ok(String::new(alloc)),
     }
 }

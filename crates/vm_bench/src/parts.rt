@@ -1,6 +1,5 @@
 //! Parts made, opened and looked into.
 
-use crate::Counts;
 use std::alloc::{AllocError, Global};
 use std::rc::Rc;
 use std::time::Clock;
@@ -23,45 +22,40 @@ const TIMES: [u64; 5] = [
 const FILE: u64 = 2;
 
 /// Makes parts of five batches of the lines, one part of these, opens its file, looks a thousand labels up a thousand
-/// times in each round, and copies the file a hundred times. Gives how many bytes the file has, how many series were
+/// times in each round, and copies the file a hundred times. Tells how many bytes the file has, how many series were
 /// found, and how many microseconds each of the five took. Nothing where the lines have no rows.
 pub(crate) fn run<C: Clock>(
     clock: &C,
     alloc: Global,
     input: &[u8],
     rounds: u32,
-) -> Result<Counts, AllocError> {
+) -> Result<String, AllocError> {
     let (parts, batches) = parts(clock, alloc, input)?;
-    if !parts.iter().any(|part| part.rows() > 0) {
-        return Ok(Vec::new(alloc));
+    match merged(clock, alloc, &parts)? {
+        Some((part, merge)) => {
+            let told = of_file(clock, alloc, part.image(), rounds)?;
+            format!(in alloc; "batches {batches} merge {merge} {told}")
+        }
+        None => Ok(String::new(alloc)),
     }
-    let start = micros(clock);
-    let part = MemPart::of_parts(alloc, &parts, 0)?;
-    let merge = micros(clock).saturating_sub(start);
-    let mut disk = MemDisk::steady(alloc).holding(FILE, part.image())?;
-    let start = micros(clock);
-    let reader = open_part(alloc, &mut disk, FILE, part.image().len() as u64);
-    let open = micros(clock).saturating_sub(start);
-    let Ok(reader) = reader else {
-        return Ok(Vec::new(alloc));
-    };
-    let shards = shards(alloc)?;
-    let start = micros(clock);
-    let found = find(&reader, &shards, rounds);
-    let find = micros(clock).saturating_sub(start);
-    let copy = copied(clock, alloc, part.image())?;
-    Ok(Vec::from_array(
-        alloc,
-        [
-            ("bytes", part.image().len() as u64),
-            ("found", found),
-            ("batches", batches),
-            ("merge", merge),
-            ("open", open),
-            ("find", find),
-            ("copy", copy),
-        ],
-    )?)
+}
+
+/// What is told of a part's file.
+fn of_file<C: Clock>(
+    clock: &C,
+    alloc: Global,
+    file: &[u8],
+    rounds: u32,
+) -> Result<String, AllocError> {
+    let copy = copied(clock, alloc, file)?;
+    match opened(clock, alloc, file)? {
+        Some((reader, open)) => {
+            let (found, find) = looked_up(clock, alloc, &reader, rounds)?;
+            let bytes = file.len();
+            format!(in alloc; "open {open} find {find} copy {copy} bytes {bytes} found {found}")
+        }
+        None => Ok(String::new(alloc)),
+    }
 }
 
 /// How many microseconds the clock has gone, 0 where it fails.
@@ -90,6 +84,47 @@ fn parts<C: Clock>(
         }
     }
     Ok((parts, took))
+}
+
+/// The part of these parts, where they have rows, and how long it took.
+fn merged<C: Clock>(
+    clock: &C,
+    alloc: Global,
+    parts: &[Rc<MemPart>],
+) -> Result<Option<(MemPart, u64)>, AllocError> {
+    if !parts.iter().any(|part| part.rows() > 0) {
+        return Ok(None);
+    }
+    let start = micros(clock);
+    let part = MemPart::of_parts(alloc, parts, 0)?;
+    Ok(Some((part, micros(clock).saturating_sub(start))))
+}
+
+/// The part that is opened, of a file on a disk in memory, and how long it took.
+fn opened<C: Clock>(
+    clock: &C,
+    alloc: Global,
+    file: &[u8],
+) -> Result<Option<(PartReader, u64)>, AllocError> {
+    let mut disk = MemDisk::steady(alloc).holding(FILE, file)?;
+    let start = micros(clock);
+    match open_part(alloc, &mut disk, FILE, file.len() as u64) {
+        Ok(reader) => Ok(Some((reader, micros(clock).saturating_sub(start)))),
+        Err(_) => Ok(None),
+    }
+}
+
+/// How many series are found, and how long it took.
+fn looked_up<C: Clock>(
+    clock: &C,
+    alloc: Global,
+    reader: &PartReader,
+    rounds: u32,
+) -> Result<(u64, u64), AllocError> {
+    let shards = shards(alloc)?;
+    let start = micros(clock);
+    let found = find(reader, &shards, rounds);
+    Ok((found, micros(clock).saturating_sub(start)))
 }
 
 /// The rows of the lines, each at this time.

@@ -1,6 +1,5 @@
 //! Queries, cut into tokens, read, printed and checked.
 
-use crate::Counts;
 use mql_expr::{check, print};
 use mql_lex::tokens;
 use mql_parse::parse;
@@ -12,7 +11,7 @@ pub(crate) fn read_and_print(
     alloc: Global,
     input: &[u8],
     rounds: u32,
-) -> Result<Counts, AllocError> {
+) -> Result<String, AllocError> {
     let (mut queries, mut right, mut bytes) = (0u64, 0u64, 0u64);
     let mut text = Vec::new(alloc);
     for _round in 0..rounds {
@@ -24,10 +23,7 @@ pub(crate) fn read_and_print(
             bytes = bytes.saturating_add(text.len() as u64);
         }
     }
-    Ok(Vec::from_array(
-        alloc,
-        [("queries", queries), ("right", right), ("bytes", bytes)],
-    )?)
+    format!(in alloc; "queries {queries} right {right} bytes {bytes}")
 }
 
 /// Whether a line is a query, and one without a fault. Its canonical text is appended to `out`.
