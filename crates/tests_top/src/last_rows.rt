@@ -1,7 +1,7 @@
 //! Rows of `last`, worked out by hand.
 
 /// Rows as `trial` reads them; a line that begins with `# ` is a heading. There are 65 rows.
-pub const ROWS: &str = r#"# times, windows and words
+pub(crate) const ROWS: &str = r#"# times, windows and words
 last up 1000 | up 1 900\n | any -> 0 | - | <{"metric":{"__name__":"up"},"value":[1,"1"]}>
 last up 1000 | up 1 900\nup 3 900\n | any -> 0 | - | <{"metric":{"__name__":"up"},"value":[1,"3"]}>
 last up 1000 | up 3 900\nup 1 900\n | any -> 0 | - | <{"metric":{"__name__":"up"},"value":[1,"3"]}>

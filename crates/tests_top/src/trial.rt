@@ -15,7 +15,7 @@ const NEVER: u64 = u64::MAX;
 
 /// How an input comes and an output goes.
 #[derive(Clone, Copy)]
-pub struct How {
+pub(crate) struct How {
     /// How many bytes a read gives and a write takes at most.
     most: usize,
     /// The number of the read that fails, and of the write.
@@ -24,7 +24,7 @@ pub struct How {
 }
 
 /// Nothing fails, and a call moves so many bytes at most.
-pub fn pieces(most: usize) -> How {
+pub(crate) fn pieces(most: usize) -> How {
     How {
         most,
         bad_read: NEVER,
@@ -33,7 +33,12 @@ pub fn pieces(most: usize) -> How {
 }
 
 /// What a run of the program leaves: the digit of its exit status, its notes, a bar and its output.
-pub fn left(alloc: Global, words: &str, input: &[u8], how: How) -> Result<Vec<u8>, AllocError> {
+pub(crate) fn left(
+    alloc: Global,
+    words: &str,
+    input: &[u8],
+    how: How,
+) -> Result<Vec<u8>, AllocError> {
     let input = Vec::from_slice(alloc, input)?;
     let failing = Vec::from_array(alloc, [how.bad_read])?;
     let mut source = MemSource::in_pieces(input, how.most.max(1), failing);
@@ -72,7 +77,7 @@ fn words_of(alloc: Global, words: &str) -> Result<Vec<String>, AllocError> {
 /// Texts are written as `text_of` reads them. HOW is `any` where the run is made three times, with pieces of
 /// one byte, of seven, and of all; else the greatest piece, `all` or a number, and behind it `read K` or `write K`
 /// where the call of that number fails.
-pub fn is_right(alloc: Global, row: &str) -> Result<bool, AllocError> {
+pub(crate) fn is_right(alloc: Global, row: &str) -> Result<bool, AllocError> {
     let Some((given, due)) = row.split_once(" -> ") else {
         return Ok(false);
     };
@@ -145,7 +150,7 @@ fn push_note(left: &mut Vec<u8>, note: &str) -> Result<(), AllocError> {
 
 /// The bytes that a text of a row stands for: `-` for none, `<S>` for the reply with the series S, and `«N×T»`
 /// for N times the text T, in which a `#` stands for the number of the turn, from 0 on. Else as `bytes_of` reads it.
-pub fn text_of(alloc: Global, text: &str) -> Result<Vec<u8>, AllocError> {
+pub(crate) fn text_of(alloc: Global, text: &str) -> Result<Vec<u8>, AllocError> {
     let mut bytes = Vec::new(alloc);
     for piece in text.split('«') {
         match piece.split_once('»') {
