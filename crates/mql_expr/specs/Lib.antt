@@ -3,7 +3,6 @@ pub mod Canonical
 pub mod Check
 pub mod Kinds
 pub mod Levels
-pub mod Lexed
 pub mod Names
 pub mod Spans
 pub mod Tree

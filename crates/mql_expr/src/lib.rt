@@ -27,4 +27,5 @@ pub use item::Item;
 pub use levels::level_of_op;
 pub use names::{Aggregate, Function, Known, Rollup};
 pub use query_check::check;
-pub use query_text::{print, what_is_printed_is_its_words};
+pub use query_text::print;
+pub use span_text::Unit;

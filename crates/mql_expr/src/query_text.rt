@@ -2,7 +2,6 @@
 
 ghost use Rattle.std.specs.Prelude.{◌≡◌, ◌∷◌, ◌++◌, OnOk, OnErr};
 ghost use Rattle.mql_expr.specs.Canonical.{blank, canonical, text_of, pieces, placed, comma_before, arguments, bindings, binding, in_parentheses};
-ghost use Rattle.mql_expr.specs.Lexed.{PrintsItsWords};
 ghost use Rattle.mql_expr.specs.Tree.{tree, trees_in, templates_in, ranged, negate};
 
 use crate::expr::{Expr, Node, Template};
@@ -28,13 +27,6 @@ pub fn print(expr: &Expr, out: &mut Vec<u8>) -> Result<(), AllocError>
     put(expr, &mut text)?;
     out.extend_from_slice(&text)
 }
-
-/// The text that `print` writes has the words of the query as its tokens and no others, where names are
-/// names, numbers aren't below zero, a selector has a name or braces, and of several lists none is
-/// empty.
-pub fn what_is_printed_is_its_words()
-    ensures { PrintsItsWords }
-{}
 
 #[cycle(print)]
 fn put(expr: &Expr, out: &mut Vec<u8>) -> Result<(), AllocError>

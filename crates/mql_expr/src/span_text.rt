@@ -7,9 +7,10 @@ use itoa::Buffer;
 use mql_lex::Span;
 use std::alloc::AllocError;
 
-/// A unit of time. (MetricsQL, "Durations"; PromQL, "Time durations")
+/// A unit of time. (MetricsQL, "Durations"; PromQL, "Time durations") No call takes or gives one: it is a word of
+/// the laws of `mql_laws`.
 #[derive(Clone, Copy)]
-pub(crate) enum Unit {
+pub enum Unit {
     Day,
     Hour,
     Minute,

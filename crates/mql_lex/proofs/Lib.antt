@@ -1,7 +1,6 @@
-pub mod Cuts
 mod Durations
 mod FromRead
-mod Moves
+pub mod Moves
 mod Numbers
 pub mod Outcomes
 mod Reaches

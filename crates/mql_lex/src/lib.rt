@@ -26,5 +26,6 @@ pub use fault::LexFault;
 pub use group::{Group, Many, MatchKind, Matching};
 pub use lexer::tokens;
 pub use operator::Op;
+pub use phase::Phase;
 pub use span::Span;
 pub use token::{Token, TokenKind};

@@ -10,9 +10,9 @@ use crate::bytes::{
 use crate::piece::Piece;
 use crate::token::TokenKind;
 
-/// How far a piece was read.
+/// How far a piece was read. No call takes or gives one: it is a word of the laws of `mql_laws`.
 #[derive(Clone, Copy)]
-pub(crate) enum Phase {
+pub enum Phase {
     Start,
     /// A name so far.
     Named,

@@ -24,14 +24,14 @@ use vm_labels::{Filter, FilterOp};
 /// Reads the lists of items behind `{`, up to `}`: filters and names, parted by commas, of which one
 /// may stand behind the last of a list, and lists parted by `or`. Empty braces hold one empty list.
 /// (MetricsQL, "filters")
-#[derive(Debug, Drop)]
+#[derive(Drop)]
 pub struct BracesReader {
     found: Gathered,
     place: Place,
 }
 
 /// What was read.
-#[derive(Debug, Drop)]
+#[derive(Drop)]
 pub(crate) struct Gathered {
     /// The lists that are read to their end.
     lists: List<List<Item>>,
@@ -40,7 +40,7 @@ pub(crate) struct Gathered {
 }
 
 /// What was read last.
-#[derive(Debug, Drop)]
+#[derive(Drop)]
 pub(crate) enum Place {
     /// `{`
     First,
@@ -57,7 +57,7 @@ pub(crate) enum Place {
 }
 
 /// A name at the beginning of an item, which is an item of its own or that of a filter.
-#[derive(Debug, Drop)]
+#[derive(Drop)]
 pub(crate) struct Heading {
     /// The place of its first byte in the query's text.
     at: u64,
@@ -67,7 +67,7 @@ pub(crate) struct Heading {
 }
 
 /// A filter without its value.
-#[derive(Debug, Drop)]
+#[derive(Drop)]
 pub(crate) struct Begun {
     name: Text,
     op: FilterOp,

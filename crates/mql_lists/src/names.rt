@@ -14,7 +14,7 @@ use vm_base::{List, Text};
 
 /// Reads the names of labels behind `(`, up to `)`. They are parted by commas, and one may stand
 /// behind the last. A reserved word may be a name here. (PromQL, "Aggregation operators")
-#[derive(Debug, Drop)]
+#[derive(Drop)]
 pub struct NamesReader {
     /// The names that were read.
     names: List<Text>,

@@ -15,7 +15,7 @@ use vm_base::List;
 
 /// Reads the parameters of a template behind `(`, up to `)`. They are parted by commas, with none
 /// behind the last, and no reserved word is one. (MetricsQL, "WITH templates")
-#[derive(Debug, Drop)]
+#[derive(Drop)]
 pub struct ParamsReader {
     /// The parameters that were read.
     params: List<Param>,
@@ -23,7 +23,7 @@ pub struct ParamsReader {
 }
 
 /// What was read last.
-#[derive(Clone, Copy, Debug)]
+#[derive(Clone, Copy)]
 pub(crate) enum Spot {
     /// `(`
     Opened,

@@ -1,7 +1,6 @@
 pub mod Faults
 pub mod Grammar
 pub mod Machine
-pub mod ReadBack
 pub mod Stack
 pub mod Values
 pub mod Views

@@ -5,9 +5,10 @@ ghost use Rattle.mql_parse.specs.declared.fault.StepError.TheVariants.{Memory};
 
 use std::alloc::AllocError;
 
-/// What is wrong with a token where an expression can't go on with it.
-#[derive(Clone, Copy, Debug)]
-pub(crate) enum Wrong {
+/// What is wrong with a token where an expression can't go on with it. No call gives one: it is a word of the laws of
+/// `mql_laws`.
+#[derive(Clone, Copy)]
+pub enum Wrong {
     /// No expression goes on with it.
     Unexpected,
     /// It opens a level more than there may be.
@@ -17,7 +18,7 @@ pub(crate) enum Wrong {
 }
 
 /// Why a step isn't made.
-#[derive(Clone, Copy, Debug)]
+#[derive(Clone, Copy)]
 pub(crate) enum StepError {
     Memory,
     Refused(Wrong),

@@ -7,7 +7,6 @@ ghost use Rattle.mql_lists.specs.Classes.{class_of_word};
 ghost use Rattle.mql_lists.specs.Words.{Word};
 ghost use Rattle.mql_parse.specs.Faults.{IsUnexpected, IsBeyond};
 ghost use Rattle.mql_parse.specs.Grammar.{Spells};
-ghost use Rattle.mql_parse.specs.ReadBack.{PrintedIsRead, SaidIsRead, TextIsSaid, SameText, OneQuery};
 ghost use Rattle.mql_parse.specs.Machine.{State, by, step as step_of, final_of, start};
 ghost use Rattle.mql_parse.specs.declared.fault.Wrong.TheVariants.{Unexpected, TooDeep, NumberTooWide};
 
@@ -32,19 +31,4 @@ pub fn wrong_words_are_named()
         → by len s.frames s.before w (class_of_word w) ≡ Err NumberTooWide → IsBeyond true len (front ++ (w ∷ rest)) w.at }
     ensures short { (len : ℕ) (words : List Word) (s : State) → run (step_of len) start words ≡ Some s
         → final_of s ≡ None → IsUnexpected len words len }
-{}
-
-/// The canonical text of an expression reads as the same expression. Only places, the side of a call's
-/// only group and the case of a function's name may differ, and only the limits on length and depth may
-/// stand against it.
-pub fn what_is_printed_is_read_back()
-    ensures of_texts { PrintedIsRead }
-    ensures of_trees { SaidIsRead }
-    ensures texts_are { TextIsSaid }
-{}
-
-/// Canonical texts are equal where queries are the same, and of what texts can say there alone.
-pub fn canonical_text_is_one_query()
-    ensures same { SameText }
-    ensures apart { OneQuery }
 {}

@@ -25,9 +25,7 @@ mod step;
 mod templating;
 mod wanted;
 
-pub use laws::{
-    canonical_text_is_one_query, expressions_are_read, what_is_printed_is_read_back,
-    words_are_one_expression, wrong_words_are_named,
-};
+pub use fault::Wrong;
+pub use laws::{expressions_are_read, words_are_one_expression, wrong_words_are_named};
 pub use parse_fault::ParseFault;
 pub use parser::parse;

@@ -21,7 +21,7 @@ fn are_right(rt: &impl Abort, alloc: Global, rows: &str, count: u32) -> Result<(
 
 #[test]
 fn last(rt: HostRuntime) -> Result<(), Fail> {
-    are_right(&rt, rt.alloc(), last_rows::ROWS, 65)?;
+    are_right(&rt, rt.alloc(), last_rows::ROWS, 68)?;
     Ok(())
 }
 

@@ -1,7 +1,11 @@
 //! Rows of `last`, worked out by hand.
 
-/// Rows as `trial` reads them; a line that begins with `# ` is a heading. There are 65 rows.
-pub(crate) const ROWS: &str = r#"# times, windows and words
+/// Rows as `trial` reads them; a line that begins with `# ` is a heading. There are 68 rows.
+pub(crate) const ROWS: &str = r#"# the sessions of the root's README
+last up 1000 | up{job="x"} 1 900\n | any -> 0 | - | <{"metric":{"__name__":"up","job":"x"},"value":[1,"1"]}>
+last up 1000 | up{job="x"} 1 900\nup{job="y"} 3 900\n | any -> 0 | - | <{"metric":{"__name__":"up","job":"x"},"value":[1,"1"]},{"metric":{"__name__":"up","job":"y"},"value":[1,"3"]}>
+last up 300900 | up 1 900\n | any -> 0 | - | <>
+# times, windows and words
 last up 1000 | up 1 900\n | any -> 0 | - | <{"metric":{"__name__":"up"},"value":[1,"1"]}>
 last up 1000 | up 1 900\nup 3 900\n | any -> 0 | - | <{"metric":{"__name__":"up"},"value":[1,"3"]}>
 last up 1000 | up 3 900\nup 1 900\n | any -> 0 | - | <{"metric":{"__name__":"up"},"value":[1,"3"]}>

@@ -1,7 +1,8 @@
 //! Rows of `replay`, worked out by hand.
 
 /// Rows as `trial` reads them; a line that begins with `# ` is a heading. There are 28 rows.
-pub(crate) const ROWS: &str = r#"# imports and queries
+pub(crate) const ROWS: &str =
+    r#"# imports and queries; the second row is the session of the root's README
 replay | - | any -> 0 | - | -
 replay | prom 0\na{j="x"} 1 1000\n.\nquery 0 1000 a{j!="y"}\nprom 0\na{j="z"} 2 1000\n.\nend 0\nend 0\n | any -> 0 | - | accepted 1 batches 1 rows 0 skipped\nrun 0\naccepted 1 batches 1 rows 0 skipped\n<{"metric":{"__name__":"a","j":"x"},"value":[1,"1"]}>refused unknown run 0\n
 # a summary as a Go program exposes it, read at the time of the import

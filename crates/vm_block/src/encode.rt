@@ -18,7 +18,7 @@ use vm_base::{List, Sample, Stamped};
 use vm_codec::{Coding, MAX_COLUMN, MAX_INTEGER, choose, encode};
 
 /// A column that is written.
-#[derive(Debug, Drop)]
+#[derive(Drop)]
 struct Column {
     coding: Coding,
     bytes: Vec<u8>,

@@ -6,9 +6,8 @@ mod Divisions
 mod Exacts
 mod Levels
 pub mod NumberReadings
-mod NumberTexts
+pub mod NumberTexts
 mod Orders
-pub mod PrintedSamples
 pub mod PrintedTexts
 mod Products
 mod QuickDigits

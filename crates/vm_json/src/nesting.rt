@@ -9,7 +9,7 @@ use std::marker::Model;
 pub const MAX_NESTING: u8 = 100;
 
 /// What is open: an array or an object.
-#[derive(Clone, Copy, Debug)]
+#[derive(Clone, Copy)]
 pub(crate) enum Bracket {
     Square,
     Curly,

@@ -1,17 +1,11 @@
 -- How a series is written.
-use Rattle.std.specs.Prelude.{◌≡◌, ℕ, ◌<◌, ◌≤◌, ◌^◌, ◌==◌, List, [], ◌∷◌, ◌++◌, length, map, None, true, IsUtf8, codes, if◌then◌else◌}
+use Rattle.std.specs.Prelude.{ℕ, ◌==◌, List, [], ◌∷◌, ◌++◌, map, codes, if◌then◌else◌}
 use Rattle.std.specs.Fmt.{decimal}
-use Rattle.std.specs.List.{join_with_byte, AllByRecursion}
-use Rattle.vm_base.specs.Sample.{is_sample}
+use Rattle.std.specs.List.{join_with_byte}
 use Rattle.vm_base.specs.declared.stamped.Stamped.{Stamped}
 use Rattle.vm_decimal.specs.NumberText.{number_text}
 use Rattle.vm_labels.specs.Text.{label_json}
 use Rattle.vm_labels.specs.declared.pair.Pair.{Pair}
-use Rattle.vm_labels.specs.Labels.{IsLabels, limit_of}
-use Rattle.vm_labels.specs.declared.row.Row.{Row}
-use Rattle.vm_jsonline.specs.Reading.{reading}
-use Rattle.vm_jsonline.specs.declared.line.JsonLine.{JsonLine}
-use Rattle.vm_jsonline.specs.declared.line.JsonLine.TheVariants.{Rows}
 
 abbrev pub value_text : Stamped → List ℕ
 value_text s = number_text s.value
@@ -35,29 +29,3 @@ abbrev pub series_text : List Pair → List Stamped → List ℕ
 series_text labels samples =
     codes "{\"metric\":" ++ label_json labels ++ codes ",\"values\":[" ++ values_text samples
     ++ codes "],\"timestamps\":[" ++ times_text samples ++ codes "]}"
-
--- ---- what is read again
-
--- its value is one that a `Sample` can have
-abbrev pub IsOfSample : Stamped → Type 0
-IsOfSample s = is_sample s.value ≡ true
-
--- a label set within the limits of an import, of UTF-8, and samples within theirs, in a line that isn't too long
-pub record CanBeRead (labels : List Pair) (samples : List Stamped) : Type 0 where
-  pub label_set : IsLabels labels
-  pub limits : limit_of labels ≡ None
-  pub texts : AllByRecursion (λ p. IsUtf8 p.value) labels
-  pub values : AllByRecursion IsOfSample samples
-  pub times : AllByRecursion (λ s. s.time < 2 ^ 48) samples
-  pub short : length (series_text labels samples) ≤ 4194304
-
-abbrev pub row_of : List Pair → Stamped → Row
-row_of labels s = record { labels = labels; time = s.time; value = s.value }
-
-abbrev pub rows_again : List Pair → List Stamped → JsonLine
-rows_again labels samples = Rows (map (row_of labels) samples)
-
--- what is written is read again as its rows
-abbrev pub WrittenIsRead : Type 0
-WrittenIsRead =
-    (labels : List Pair) (samples : List Stamped) → CanBeRead labels samples → reading (series_text labels samples) ≡ rows_again labels samples

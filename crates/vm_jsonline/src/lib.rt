@@ -23,4 +23,4 @@ mod strings;
 mod values;
 
 pub use line::{JsonLine, read_line};
-pub use print::{print_series, what_is_written_is_read};
+pub use print::print_series;

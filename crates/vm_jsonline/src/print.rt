@@ -3,7 +3,7 @@
 ghost use Rattle.std.specs.Prelude.{◌≡◌, ◌++◌, OnOk, OnErr};
 ghost use Rattle.std.specs.Fmt.{decimal};
 ghost use Rattle.vm_decimal.specs.NumberText.{number_text};
-ghost use Rattle.vm_jsonline.specs.Print.{comma_before, values_text, times_text, series_text, WrittenIsRead};
+ghost use Rattle.vm_jsonline.specs.Print.{comma_before, values_text, times_text, series_text};
 
 use itoa::Buffer;
 use std::alloc::AllocError;
@@ -29,12 +29,6 @@ pub fn print_series(
     put_series(&mut text, labels, samples)?;
     out.extend_from_slice(&text)
 }
-
-/// What `print_series` writes is read again as its rows, where these keep the limits of an import. The text of
-/// every sample's value is read as this value.
-pub fn what_is_written_is_read()
-    ensures { WrittenIsRead }
-{}
 
 fn put_series(text: &mut Vec<u8>, labels: &Labels, samples: &[Stamped]) -> Result<(), AllocError>
     ensures { OnOk result (text.new.items ≡ text.old.items ++ series_text labels.now samples.now) }

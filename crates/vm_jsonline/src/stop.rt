@@ -6,7 +6,7 @@ ghost use Rattle.vm_jsonline.specs.declared.stop.Stop.TheVariants.{Memory};
 use std::alloc::AllocError;
 
 /// Why a step that takes memory stops.
-#[derive(Clone, Copy, Debug)]
+#[derive(Clone, Copy)]
 pub(crate) enum Stop {
     Memory,
     /// The line is JSON, but no series.

@@ -15,7 +15,7 @@ use std::str;
 use vm_base::{List, Text};
 
 /// Why a reader stopped.
-#[derive(Debug, Drop)]
+#[derive(Drop)]
 pub(crate) enum Stop {
     /// A fault, with so many bytes from it on.
     At { left: usize },

@@ -12,7 +12,7 @@ use vm_base::{Broken, List, Sample, Stamped};
 use vm_block::{BlockFault, BlockHeader, HEADER_LEN, decode_block, read_header};
 
 /// What was seen of the blocks of a series.
-#[derive(Clone, Copy, Debug)]
+#[derive(Clone, Copy)]
 pub(crate) struct Seen {
     /// How many there are.
     pub blocks: u64,

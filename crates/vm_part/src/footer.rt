@@ -14,7 +14,7 @@ pub(crate) const FRONT_MARK: &[u8; 8] = b"VMDPART1";
 pub(crate) const END_MARK: &[u8; 8] = b"VMDPEND1";
 
 /// The numbers of a part's footer.
-#[derive(Clone, Copy, Debug, PartialEq, Eq)]
+#[derive(Clone, Copy, PartialEq, Eq)]
 pub(crate) struct Footer {
     /// Where the entries of the series stand, behind all blocks.
     pub entries_at: u64,

@@ -41,7 +41,7 @@ impl MemPart {
 }
 
 /// What was found in the bytes of a part.
-#[derive(Debug, Drop)]
+#[derive(Drop)]
 struct Found {
     index: Index,
     entries: List<Entry>,

@@ -6,13 +6,13 @@ ghost use Rattle.vm_promtext.specs.declared.stop.Stop.TheVariants.{Memory, Broke
 use std::alloc::AllocError;
 
 /// A line goes wrong where this many of its bytes are left.
-#[derive(Clone, Copy, Debug)]
+#[derive(Clone, Copy)]
 pub struct Wrong {
     pub left: usize,
 }
 
 /// Why a step that takes memory stops.
-#[derive(Clone, Copy, Debug)]
+#[derive(Clone, Copy)]
 pub enum Stop {
     Memory,
     Broken(Wrong),

@@ -11,7 +11,7 @@ use vm_labels::is_name;
 use vm_script::read_number;
 
 /// What a command line asks for.
-#[derive(Clone, Copy, Debug)]
+#[derive(Clone, Copy)]
 pub enum Task<'a> {
     /// `last NAME TIME`: a metric's name, and a time in ms since the Unix epoch.
     Last { name: &'a str, time: u64 },

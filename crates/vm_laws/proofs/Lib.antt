@@ -1,0 +1,4 @@
+mod NumberTexts
+mod PrintLaws
+mod PrintedSamples
+mod QuotedLaws
