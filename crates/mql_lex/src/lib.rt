@@ -27,5 +27,6 @@ pub use group::{Group, Many, MatchKind, Matching};
 pub use lexer::tokens;
 pub use operator::Op;
 pub use phase::Phase;
+pub use piece::Piece;
 pub use span::Span;
 pub use token::{Token, TokenKind};

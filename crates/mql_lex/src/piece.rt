@@ -9,9 +9,10 @@ use crate::bytes::is_word_byte;
 use crate::phase::{Phase, next, piece_of};
 use crate::token::TokenKind;
 
-/// What a piece is.
+/// What a piece is. No call takes or gives one: it is a word of the laws of `mql_laws`.
 #[derive(Clone, Copy)]
-pub(crate) enum Piece {
+pub enum Piece {
+    /// A token.
     Token(TokenKind),
     /// Blanks or a comment.
     Gap,
