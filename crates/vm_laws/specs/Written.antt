@@ -1,5 +1,5 @@
 -- That a series that is written as a line is read again.
-use Rattle.std.specs.Prelude.{◌≡◌, ℕ, ◌<◌, ◌≤◌, ◌^◌, List, length, map, None, true, IsUtf8}
+use Rattle.std.specs.Prelude.{◌≡◌, ◌<◌, ◌≤◌, ◌^◌, List, length, map, None, true, IsUtf8}
 use Rattle.std.specs.List.{AllByRecursion}
 use Rattle.vm_base.specs.Sample.{is_sample}
 use Rattle.vm_base.specs.declared.stamped.Stamped.{Stamped}
