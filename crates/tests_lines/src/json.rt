@@ -1,5 +1,6 @@
-//! `vm_json`: which texts are JSON, and where others go wrong. Places were worked out by hand from RFC 8259;
-//! which texts are JSON agrees with Python's `json`, but for `NaN`, infinities and the depth.
+//! `vm_json`: which texts are JSON, and where others go wrong. Places were worked out by hand from
+//! RFC 8259; which texts are JSON agrees with Python's `json`, but for `NaN`, infinities and the
+//! depth.
 
 use std::alloc::{AllocError, Global};
 use std::test::Fail;

@@ -1,5 +1,6 @@
-//! `vm_jsonline`: lines and what they say. The expected values were worked out by hand from RFC 8259 and from
-//! how VictoriaMetrics exports JSON lines; numbers as they print, rounded to 18 digits by Python's `decimal`.
+//! `vm_jsonline`: lines and what they say. The expected values were worked out by hand from RFC
+//! 8259 and from how VictoriaMetrics exports JSON lines; numbers as they print, rounded to 18
+//! digits by Python's `decimal`.
 
 use crate::jsonline_rows::ROWS;
 use crate::printed::{push_row, push_skipped};
@@ -8,9 +9,10 @@ use std::test::Fail;
 use test_rows::repeated;
 use vm_jsonline::{JsonLine, print_series, read_line};
 
-/// As `ROWS`, with texts as `repeated` takes them: no text, white space, control characters, brackets within
-/// brackets, a label's name and value at their limits and one above, a line of one byte too many, and UTF-8
-/// that is broken at its first byte, its second and its third. `0*.` is an empty line.
+/// As `ROWS`, with texts as `repeated` takes them: no text, white space, control characters,
+/// brackets within brackets, a label's name and value at their limits and one above, a line of one
+/// byte too many, and UTF-8 that is broken at its first byte, its second and its third. `0*.` is an
+/// empty line.
 const ESCAPED: &str = r#"nothing <- 0*.
 nothing <-  \t\r
 rows {a="\x08\x0c\r\t\x00"} 1 1 <- {"metric":{"a":"\\b\\f\\r\\t\\u0000"},"values":[1],"timestamps":[1]}

@@ -1,6 +1,7 @@
 //! Lines and what they say, worked out by hand.
 
-/// What a line says, ` <- `, and the line, a row a line; headings begin with `#`. There are 64 rows.
+/// What a line says, ` <- `, and the line, a row a line; headings begin with `#`. There are 64
+/// rows.
 pub(crate) const ROWS: &str = r##"# Rows.
 rows {__name__="m",job="x"} 1 10 {__name__="m",job="x"} 2.5 20 <- {"metric":{"__name__":"m","job":"x"},"values":[1,2.5,null],"timestamps":[10,20,30]}
 rows {a="1",b="2"} 0 5 <-  { "timestamps" : [ 5 ] , "x" : [{}] , "values" : [ -0 ] , "metric" : { "b" : "2" , "a" : "1" } } 

@@ -1,9 +1,9 @@
-//! `vm_lines`: the lines of worked inputs, in pieces of several sizes. What is expected follows from how a
-//! text is split: at line feeds, without the one carriage return at a line's end.
+//! `vm_lines`: the lines of worked inputs, in pieces of several sizes. What is expected follows
+//! from how a text is split: at line feeds, without the one carriage return at a line's end.
 //!
-//! A line may have 4,194,304 bytes without its carriage return. Inputs are read up to 2^62 bytes: with
-//! three bytes to go, a reader shows the lines in them, and comes to the end only where it meets the end
-//! before the limit.
+//! A line may have 4,194,304 bytes without its carriage return. Inputs are read up to 2^62 bytes:
+//! with three bytes to go, a reader shows the lines in them, and comes to the end only where it
+//! meets the end before the limit.
 
 use crate::printed::push_number;
 use std::alloc::{AllocError, Global};
@@ -13,9 +13,9 @@ use vm_base::limits::MAX_INPUT;
 use vm_lines::{LineFault, LineReader, Step};
 use vm_outside::{MemSource, Source};
 
-/// How many bytes were taken before, the rest of the input ` -> ` each line with `/` behind it, or the
-/// length of one with more than 99 bytes, `#` for one that is too long, and `.` for the end or `!` for an
-/// input that is too long. Texts are as `repeated` takes them.
+/// How many bytes were taken before, the rest of the input ` -> ` each line with `/` after it, or
+/// the length of one with more than 99 bytes, `#` for one that is too long, and `.` for the end or
+/// `!` for an input that is too long. Texts are as `repeated` takes them.
 const ROWS: &str = r"0  -> .
 0 \n -> /.
 0 \n\n\n -> ///.
@@ -61,6 +61,18 @@ fn lines(rt: HostRuntime) -> Result<(), Fail> {
     Ok(())
 }
 
+/// The end of an input is met once: after an unfinished last line no call is made that could fail.
+#[test]
+fn the_end_is_read_once(rt: HostRuntime) -> Result<(), Fail> {
+    let alloc = rt.alloc();
+    let bytes = Vec::from_slice(alloc, b"a")?;
+    let failing = Vec::from_array(alloc, [2])?;
+    let mut input = MemSource::new(bytes, failing);
+    let lines = shown(alloc, 0, &mut input, false)?;
+    assert!(rt; lines.as_slice() == b"a/.".as_slice());
+    Ok(())
+}
+
 /// Whether the lines of an input are those of its row, by each size of pieces.
 fn is_right(alloc: Global, row: &str) -> Result<bool, AllocError> {
     let Some((given, due)) = row.split_once(" -> ") else {
@@ -83,9 +95,9 @@ fn is_right(alloc: Global, row: &str) -> Result<bool, AllocError> {
     Ok(true)
 }
 
-/// An input in pieces of at most so many bytes, some of whose calls fail. A long one has none that fail,
-/// since what follows a failure amid a line that is too long is a line of its own, and comes in pieces that
-/// are 65,537 times as long.
+/// An input in pieces of at most so many bytes, some of whose calls fail. A long one has none that
+/// fail, since what follows a failure amid a line that is too long is a line of its own, and comes
+/// in pieces that are 65,537 times as long.
 fn input(alloc: Global, text: &[u8], most: usize) -> Result<MemSource, AllocError> {
     let bytes = Vec::from_slice(alloc, text)?;
     if bytes.len() < LONG {

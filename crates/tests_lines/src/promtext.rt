@@ -1,5 +1,6 @@
-//! `vm_promtext`: lines and what they say. The expected values were worked out by hand from the description
-//! of the text format 0.0.4; places are counted from 0 up to the first byte that no line can have there.
+//! `vm_promtext`: lines and what they say. The expected values were worked out by hand from the
+//! description of the text format 0.0.4; places are counted from 0 up to the first byte that no
+//! line can have there.
 
 use crate::printed::{push_row, push_skipped};
 use std::alloc::{AllocError, Global};
@@ -10,7 +11,8 @@ use vm_promtext::{Line, read_line};
 /// The time at which the lines of the tables are read.
 const NOW: u64 = 7;
 
-/// A line ` -> ` its row, `nothing`, `no number`, or where it goes wrong: by its value, then its time, then its labels.
+/// A line ` -> ` its row, `nothing`, `no number`, or where it goes wrong: by its value, then its
+/// time, then its labels.
 const ROWS: &str =
     r#"go_gc_duration_seconds{quantile="0"} 2.7667e-05 -> {__name__="go_gc_duration_seconds",quantile="0"} 0.000027667 7
 go_gc_duration_seconds_sum 0.000198 -> {__name__="go_gc_duration_seconds_sum"} 0.000198 7
@@ -83,8 +85,8 @@ a 1 2x -> skipped 5
 a 1 2 3 -> skipped 6
 a 1e400 x -> skipped 8"#;
 
-/// As `ROWS`, with texts as `repeated` takes them: white space, bytes that are no text, and limits. The first
-/// row at a limit has 40 labels with the metric's name, the next one 41.
+/// As `ROWS`, with texts as `repeated` takes them: white space, bytes that are no text, and limits.
+/// The first row at a limit has 40 labels with the metric's name, the next one 41.
 const ESCAPED: &str = r#"\ta\t{\tb\t=\t"c"\t,\td =\t"e"\t}\t1\t5\t -> {__name__="a",b="c",d="e"} 1 5
  \t  -> nothing
 \t #{ -> nothing

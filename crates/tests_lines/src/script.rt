@@ -1,5 +1,5 @@
-//! `vm_script`: which lines are commands and which texts are selectors, worked out by hand from the script's
-//! grammar in `docs/replay.md`.
+//! `vm_script`: which lines are commands and which texts are selectors, worked out by hand from the
+//! script's grammar in `docs/replay.md`.
 
 use std::alloc::{AllocError, Global};
 use std::str::from_utf8;
@@ -8,8 +8,8 @@ use test_rows::repeated;
 use vm_labels::{FilterOp, Selector};
 use vm_script::{Command, is_body_end, read_command, read_number, read_selector};
 
-/// What is read (a line, a number, a line that may end a body, a selector), its text ` -> ` what it says, or
-/// `-`. Texts are as `repeated` takes them.
+/// What is read (a line, a number, a line that may end a body, a selector), its text ` -> ` what it
+/// says, or `-`. Texts are as `repeated` takes them.
 const ROWS: &str = r#"line prom 0 -> Prom 0
 line prom 0001700000000000 -> Prom 1700000000000
 line prom 281474976710655 -> Prom 281474976710655

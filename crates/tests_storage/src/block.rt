@@ -16,8 +16,9 @@ use vm_block::{
 pub(crate) const BLOCK: &str =
     r"\x00\x04\x02\x05\x00\x00\x00\x00\x00\x00\x00\x00\x00\x00\x03\xe8\x00\x00\x00\x00\x00\x00\x0f\xa0\x00\x00\x00\x00\x00\x00\x00\x01\x00\x00\x00\x02\x00\x00\x00\x03\xd0\x0f\x02\x02\x02";
 
-/// One byte of `BLOCK` changed: the places of that byte from the first to the second, its values from the
-/// third to the fourth by steps of the fifth, and what becomes of the bytes. All other changes give a block.
+/// One byte of `BLOCK` changed: the places of that byte from the first to the second, its values
+/// from the third to the fourth by steps of the fifth, and what becomes of the bytes. All other
+/// changes give a block.
 const CHANGES: &str = r"0 0 1 31 1|Body 16
 0 0 32 255 1|Header 0
 1 1 0 0 1|Header 0
@@ -100,12 +101,12 @@ const BLOCKS: &str =
 5 15 -1, 5 2 1, 5 2 1, 9 0 0|\x00\x04\x05\x06\xff\xff\x00\x00\x00\x00\x00\x00\x00\x00\x00\x05\x00\x00\x00\x00\x00\x00\x00\x09\x00\x00\x00\x00\x00\x00\x00\x0f\x00\x00\x00\x03\x00\x00\x00\x05\x00\x00\x08\xf2\x02\x00\x8f\x03
 60000 1 0, 120000 5 0|\x00\x02\x02\x02\x00\x00\x00\x00\x00\x00\x00\x00\x00\x00\xea\x60\x00\x00\x00\x00\x00\x01\xd4\xc0\x00\x00\x00\x00\x00\x00\x00\x01\x00\x00\x00\x03\x00\x00\x00\x01\xc0\xa9\x07\x08";
 
-/// What becomes of bytes that are read as one block: the first letter of its word in a row, and a place where it
-/// has one.
+/// What becomes of bytes that are read as one block: the first letter of its word in a row, and a
+/// place where it has one.
 ///
-/// `Header`: the header breaks at this place. `Length`: the columns aren't as long as it says. `Body`: the
-/// body breaks the block at this place. `Samples`: it is a block. Else, in no row, the header is written
-/// otherwise than it was read, or memory ran out.
+/// `Header`: the header breaks at this place. `Length`: the columns aren't as long as it says.
+/// `Body`: the body breaks the block at this place. `Samples`: it is a block. Else, in no row, the
+/// header is written otherwise than it was read, or memory ran out.
 type Outcome = (u8, u64);
 
 /// The header of a block, or why there is none.
@@ -283,8 +284,8 @@ fn is_cut(alloc: Global, block: &[Stamped], due: &str) -> Result<bool, AllocErro
     }
 }
 
-/// Whether samples are cut into these blocks, with a comma between two: of each how many samples it has and
-/// its two codings.
+/// Whether samples are cut into these blocks, with a comma between two: of each how many samples it
+/// has and its two codings.
 fn are_cut(alloc: Global, samples: &[Stamped], due: &str) -> Result<bool, AllocError> {
     let blocks = cut(alloc, samples)?;
     let mut due = due.split(", ");
@@ -312,8 +313,8 @@ fn sevens(alloc: Global) -> Result<Vec<Stamped>, AllocError> {
     Ok(sevens)
 }
 
-/// A block ends where a mantissa would have more than 18 digits, and after 8,192 samples. The codings are
-/// those of one time or of times that rise evenly, and of one value or of two.
+/// A block ends where a mantissa would have more than 18 digits, and after 8,192 samples. The
+/// codings are those of one time or of times that rise evenly, and of one value or of two.
 #[test]
 fn samples_are_cut_where_they_must(rt: HostRuntime) -> Result<(), Fail> {
     let alloc = rt.alloc();

@@ -16,8 +16,8 @@ const COLUMNS: &str = r"7|Const|
 0 64 0 64 1|NearestDelta|\x80\x01\x7f\x80\x01\x7d
 999999999999999999 -999999999999999999|DeltaConst|\xfb\xff\xbf\xec\xe9\xd9\xb6\xc1\x37";
 
-/// A coding; the first value, how many values there are to be, and where the bytes break; the bytes, which are no
-/// such column.
+/// A coding; the first value, how many values there are to be, and where the bytes break; the
+/// bytes, which are no such column.
 const BROKEN: &str = r"NearestDelta2|1 4 0|\x82\x00\x02\x02
 NearestDelta2|1 4 2|\x02\x02
 NearestDelta2|1 4 2|\x02\x02\x82

@@ -6,8 +6,8 @@ use std::test::Fail;
 use vm_base::Stamped;
 use vm_dedup::Dedup;
 
-/// An interval in ms, samples, and those of them that stay. A sample is a time and a whole number that doesn't
-/// end with 0.
+/// An interval in ms, samples, and those of them that stay. A sample is a time and a whole number
+/// that doesn't end with 0.
 const ROWS: &str = r"60000|60000 1, 60001 2, 120000 3, 120000 5|60000 1, 120000 5
 0|7 1, 7 1, 7 2, 8 2|7 1, 7 1, 7 2, 8 2
 1|7 1, 7 1, 7 2, 8 2|7 2, 8 2

@@ -1,6 +1,7 @@
 //! Parts in files.
 //!
-//! The places come from a reader of parts in Python that was written from the description of the format alone.
+//! The places come from a reader of parts in Python that was written from the description of the
+//! format alone.
 ghost use Rattle.vm_part.specs.Files.{HasWritten};
 
 use crate::part::{part_of, up};
@@ -11,8 +12,9 @@ use std::test::Fail;
 use vm_outside::{Disk, MemDisk};
 use vm_part::{MemPart, PartReader, PartWriter, Writing, open_part};
 
-/// A file and how long it should be, and what is opened, or why none is, as a fault is printed: calls that fail, one
-/// byte too few and too many, too few for any part, and a file that isn't there. File 7 is the part of `up 1 900`.
+/// A file and how long it should be, and what is opened, or why none is, as a fault is printed:
+/// calls that fail, one byte too few and too many, too few for any part, and a file that isn't
+/// there. File 7 is the part of `up 1 900`.
 const FILES: &str = "\
 7 194|file 7 with 1 row, 1 series of up
 7 194|disk fault
@@ -50,11 +52,13 @@ fn long_lines(alloc: Global) -> Result<String, AllocError> {
     Ok(lines)
 }
 
-/// Writes a part into file 7 of a disk whose calls 0, 2 and 5 fail, two writes and the first sync, and whether
-/// it stands there then and a crash leaves it.
+/// Writes a part into file 7 of a disk whose calls 0, 2 and 5 fail, two writes and the first sync,
+/// and whether it is there then and a crash leaves it.
 fn is_written(alloc: Global, part: &Rc<MemPart>) -> Result<bool, AllocError> {
     let mut disk = MemDisk::new(alloc, Vec::from_array(alloc, [0, 2, 5])?);
-    let writer = PartWriter::begin_image(7, part.clone()?)?;
+    let Ok(writer) = PartWriter::begin_image(7, part.clone()?) else {
+        return Ok(false);
+    };
     let len = writer.len();
     let Some(reader) = write_out(&mut disk, writer) else {
         return Ok(false);

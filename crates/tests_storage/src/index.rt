@@ -1,4 +1,5 @@
-//! Rows worked out by hand: the bytes of one series are those of a part file of 194 bytes that holds it.
+//! Rows worked out by hand: the bytes of one series are those of a part file of 194 bytes that
+//! holds it.
 
 use crate::rows::{cells, placed};
 use std::alloc::{AllocError, Global};
@@ -23,11 +24,13 @@ const TWO: &str =
 const TWO_POSTINGS: &str =
     r"\x00\x00\x00\x00\x00\x00\x00\x03\x00\x08__name__\x00\x01a\x00\x00\x00\x00\x00\x00\x00\x02\x00\x00\x00\x00\x00\x00\x00\x00\x00\x00\x00\x00\x00\x00\x00\x01\x00\x01i\x00\x011\x00\x00\x00\x00\x00\x00\x00\x01\x00\x00\x00\x00\x00\x00\x00\x00\x00\x01i\x00\x012\x00\x00\x00\x00\x00\x00\x00\x01\x00\x00\x00\x00\x00\x00\x00\x01";
 
-/// A table, postings, how many label sets, and the field that breaks, if one does. A name stands for the
-/// bytes of the constant, with the highest bit of a byte turned where `^` and the byte's place follow.
+/// A table, postings, how many label sets, and the field that breaks, if one does. A name stands
+/// for the bytes of the constant, with the highest bit of a byte flipped where `^` and the byte's
+/// place follow.
 ///
-/// A turned byte of the set's length or of its number of labels makes the set too long for the table or for
-/// itself, one of a text's length makes the text too long, and one of a text makes it no name and no UTF-8.
+/// A flipped byte of the set's length or of its number of labels makes the set too long for the
+/// table or for itself, one of a text's length makes the text too long, and one of a text makes it
+/// no name and no UTF-8.
 const TABLES: &str = r"|\x00\x00\x00\x00\x00\x00\x00\x00|0 none
 UP|UP_POSTINGS|1 none
 UP|UP_POSTINGS|0 table 0
@@ -73,7 +76,8 @@ i|2|1
 i|3|
 i||";
 
-/// A name and the values that the sets of `TWO` have of it; without a name, the names that they have.
+/// A name and the values that the sets of `TWO` have of it; without a name, the names that they
+/// have.
 const LISTS: &str = r"|__name__ i
 i|1 2
 j|";

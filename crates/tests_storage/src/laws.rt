@@ -1,4 +1,5 @@
-//! Laws of the crates of storage. Each call asks for nothing but what its law is about, and does nothing.
+//! Laws of the crates of storage. Each call asks for nothing but what its law is about, and does
+//! nothing.
 
 use crate::block::{BLOCK, header_of};
 use std::test::Fail;

@@ -1,7 +1,7 @@
 //! Tests of what a part file is made of: columns, blocks, the label index, series, and parts.
 //!
-//! Each file has the tables of one crate. `test_rows` reads what their rows write as bytes, and `rows`
-//! what they write as numbers and as samples.
+//! Each file has the tables of one crate. `test_rows` reads what their rows write as bytes, and
+//! `rows` what they write as numbers and as samples.
 #![tactic(auto)]
 
 #[cfg(test)]

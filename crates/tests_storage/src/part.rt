@@ -1,8 +1,8 @@
-//! Parts in memory, and bytes of parts of which one bit was changed.
+//! Parts in memory, and bytes of parts of which some bits were changed.
 //!
-//! The bytes, the places and the sums come from a reader and a writer of parts in Python that were written from
-//! the description of the format alone. The part of `up 1 900` and what parts are merged into were also worked
-//! out by hand.
+//! The bytes, the places and the sums come from a reader and a writer of parts in Python that were
+//! written from the description of the format alone. The part of `up 1 900` and what parts are
+//! merged into were also worked out by hand, and so were the places where several bits are changed.
 
 use crate::rows::{cells, numbers, samples};
 use std::alloc::{AllocError, Global};
@@ -14,8 +14,8 @@ use vm_labels::{Batch, Row};
 use vm_part::{MemPart, ReadFault, are_within_limits};
 use vm_promtext::{Line, read_line};
 
-/// The part of `up 1 900`: its front, its block, its entry, the label table, the postings and the footer, with
-/// the places 48, 88 and 108, one series and one row.
+/// The part of `up 1 900`: its front, its block, its entry, the label table, the postings and the
+/// footer, with the places 48, 88 and 108, one series and one row.
 const UP: &str = r"VMDPART1
 \x00\x01\x03\x03\x00\x00\x00\x00\x00\x00\x00\x00\x00\x00\x03\x84\x00\x00\x00\x00\x00\x00\x03\x84\x00\x00\x00\x00\x00\x00\x00\x01\x00\x00\x00\x00\x00\x00\x00\x00
 \x00\x00\x00\x00\x00\x00\x00\x08\x00\x00\x00\x00\x00\x00\x00\x01\x00\x00\x00\x00\x00\x00\x00\x01\x00\x00\x00\x00\x00\x00\x03\x84\x00\x00\x00\x00\x00\x00\x03\x84
@@ -23,8 +23,8 @@ const UP: &str = r"VMDPART1
 \x00\x00\x00\x00\x00\x00\x00\x01\x00\x08__name__\x00\x02up\x00\x00\x00\x00\x00\x00\x00\x01\x00\x00\x00\x00\x00\x00\x00\x00
 \x00\x00\x00\x00\x00\x00\x00\x30\x00\x00\x00\x00\x00\x00\x00\x58\x00\x00\x00\x00\x00\x00\x00\x6c\x00\x00\x00\x00\x00\x00\x00\x01\x00\x00\x00\x00\x00\x00\x00\x01VMDPEND1";
 
-/// Where that file breaks where the lowest bit of a byte is another one: the first and the last of some
-/// bytes, and the place, none where it is another part.
+/// Where that file breaks where the lowest bit of a byte is another one: the first and the last of
+/// some bytes, and the place, none where it is another part.
 const CHANGED: &str = r"0 7|0
 8 9|8
 10 11|48
@@ -133,13 +133,25 @@ up{i="39"} 39 1039"#;
 /// The sum of the bytes of their part.
 const FORTY_BYTES: u32 = 1053832586;
 
-/// Where the label table of that part begins and its postings end, and the sum of the places where it breaks where
-/// the lowest bit of a byte between these is another one.
+/// Where the label table of that part begins and its postings end, and the sum of the places where
+/// it breaks where the lowest bit of a byte between these is another one.
 const FORTY_INDEX: (usize, usize) = (3208, 5558);
 
 const FORTY_SUM: u32 = 2725799748;
 
-/// How parts are merged: the interval in ms, a line for each part, and the samples of the merged part.
+/// Where that part breaks where the lowest bit of each of some bytes is another one. Byte 5597 ends
+/// the footer's rows, so that the rows of the entries don't add up to them. The last entry stands at
+/// 3168, with its blocks at 3176, its rows at 3184 and its times at 3192 and 3200; the first time of
+/// the first one stands at 1632.
+const CHANGED_TOGETHER: &str = r"5597|3184
+5597 3192|3184
+5597 3200|3184
+5597 3176|3176
+5597 1632|1632
+3192 3200|3192";
+
+/// How parts are merged: the interval in ms, a line for each part, and the samples of the merged
+/// part.
 const MERGED: &str = r"0|up 2 1005, up 1 1001|1001 1, 1005 2
 10|up 2 1005, up 1 1001|1005 2";
 
@@ -234,18 +246,28 @@ fn parts_are_merged(rt: HostRuntime) -> Result<(), Fail> {
     Ok(())
 }
 
-/// Where a file breaks in which a bit of a byte was changed, none where it is a part.
-fn place(alloc: Global, file: &[u8], at: usize, bit: u32) -> Result<Option<u64>, AllocError> {
-    let mut bytes = Vec::from_slice(alloc, file)?;
+/// Changes a bit of a byte.
+fn change(bytes: &mut [u8], at: usize, bit: u32) {
     if let Some(byte) = bytes.get_mut(at) {
         *byte ^= 1u8.wrapping_shl(bit);
     }
+}
+
+/// Where a file of these bytes breaks, none where it is a part.
+fn broken_at(alloc: Global, bytes: Vec<u8>) -> Result<Option<u64>, AllocError> {
     let len = bytes.len() as u64;
     match MemPart::read(alloc, len, bytes) {
         Ok(_) => Ok(None),
         Err(ReadFault::Broken { at }) => Ok(Some(at)),
         Err(ReadFault::Memory) => Err(AllocError),
     }
+}
+
+/// Where a file breaks in which a bit of a byte was changed, none where it is a part.
+fn place(alloc: Global, file: &[u8], at: usize, bit: u32) -> Result<Option<u64>, AllocError> {
+    let mut bytes = Vec::from_slice(alloc, file)?;
+    change(&mut bytes, at, bit);
+    broken_at(alloc, bytes)
 }
 
 /// A place, or `none`.
@@ -345,5 +367,32 @@ fn the_index_of_forty_series_breaks_at_its_places(rt: HostRuntime) -> Result<(),
         sum_of_places(rt.alloc(), part.image(), from, to, 0)?,
         FORTY_SUM
     );
+    Ok(())
+}
+
+/// Whether a file breaks at the place of a row where the lowest bit of each of its bytes is changed.
+fn breaks_together(alloc: Global, file: &[u8], row: &str) -> Result<bool, AllocError> {
+    let Some((changed, due)) = row.split_once('|') else {
+        return Ok(false);
+    };
+    let mut bytes = Vec::from_slice(alloc, file)?;
+    for at in changed.split(' ') {
+        let Ok(at) = at.parse() else {
+            return Ok(false);
+        };
+        change(&mut bytes, at, 0);
+    }
+    match place_of(due) {
+        Some(due) => Ok(broken_at(alloc, bytes)? == due),
+        None => Ok(false),
+    }
+}
+
+#[test]
+fn several_changed_bytes_break_at_the_first_wrong_field(rt: HostRuntime) -> Result<(), Fail> {
+    let part = part_of(rt.alloc(), FORTY)?;
+    for row in CHANGED_TOGETHER.lines() {
+        assert!(rt; breaks_together(rt.alloc(), part.image(), row)?, "{row}");
+    }
     Ok(())
 }

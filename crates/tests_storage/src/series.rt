@@ -7,8 +7,8 @@ use vm_base::{List, Stamped, Text};
 use vm_labels::{Labels, Pair};
 use vm_series::{Piece, Series, gather};
 
-/// An interval in ms, pieces of series, and the series that they make. A piece is the value of its only label
-/// and its samples, each a time and a whole number that doesn't end with 0.
+/// An interval in ms, pieces of series, and the series that they make. A piece is the value of its
+/// only label and its samples, each a time and a whole number that doesn't end with 0.
 const ROWS: &str = r"0|y(1 1, 3 3) x(9 -4) y(2 2, 3 -1, 3 3)|x(9 -4) y(1 1, 2 2, 3 -1, 3 3, 3 3)
 10|x(10 2, 11 3) y() x(4 7, 20 1)|x(10 2, 20 1)
 5||";
@@ -26,7 +26,8 @@ fn job(alloc: Global, name: &str) -> Result<Labels, AllocError> {
     }
 }
 
-/// Series, each the value of its label and its samples. An error where the text writes other things.
+/// Series, each the value of its label and its samples. An error where the text writes other
+/// things.
 fn series_of(alloc: Global, text: &str) -> Result<Vec<Series>, AllocError> {
     let mut all = Vec::new(alloc);
     for piece in text.split_terminator(')') {

@@ -27,12 +27,12 @@ fn last(rt: HostRuntime) -> Result<(), Fail> {
 
 #[test]
 fn replay(rt: HostRuntime) -> Result<(), Fail> {
-    are_right(&rt, rt.alloc(), replay_rows::ROWS, 28)?;
+    are_right(&rt, rt.alloc(), replay_rows::ROWS, 30)?;
     Ok(())
 }
 
-/// Times and inputs at which `last`, which keeps one sample a series, has to answer what `replay` does, whose
-/// machine keeps all rows in one list.
+/// Times and inputs at which `last`, which keeps one sample a series, has to answer what `replay`
+/// does, whose machine keeps all rows in one list.
 const SAME: &str = r#"899 | -
 900 | -
 1000 | -

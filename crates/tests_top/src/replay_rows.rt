@@ -1,6 +1,6 @@
 //! Rows of `replay`, worked out by hand.
 
-/// Rows as `trial` reads them; a line that begins with `# ` is a heading. There are 28 rows.
+/// Rows as `trial` reads them; a line that begins with `# ` is a heading. There are 30 rows.
 pub(crate) const ROWS: &str =
     r#"# imports and queries; the second row is the session of the root's README
 replay | - | any -> 0 | - | -
@@ -28,9 +28,13 @@ replay | close 1 \n | 5 -> 1 | bad script line 1 | -
 replay | query 0 0 \n | 5 -> 1 | bad script line 1 | -
 replay | query 1000 0 up\n | 5 -> 1 | bad script line 1 | -
 replay | prom 281474976710656\n.\n | 5 -> 1 | bad script line 1 | -
-# reads and writes that fail: what was written is a first part of what the commands print
+# reads and writes that fail: what was written is what the commands print whose lines came whole, and a first part of
+# it where the output fails
 replay | close 1\nprom 0\nup 1\n.\nclose 2\n | 10 read 0 -> 6 | input fault | -
 replay | close 1\nprom 0\nup 1\n.\nclose 2\n | 10 read 2 -> 6 | input fault | refused unknown run 1\n
+replay | close 1\nclose 2\nclose 3\nclose 4\n | 10 read 3 -> 6 | input fault | refused unknown run 1\nrefused unknown run 2\nrefused unknown run 3\n
+# the end of the input is met once: a fourth read would fail
+replay | close 1\nclose 2 | 10 read 3 -> 0 | - | refused unknown run 1\nrefused unknown run 2\n
 replay | close 1\nprom 0\nup 1\n.\nclose 2\n | 10 write 0 -> 7 | output fault | -
 replay | close 1\nprom 0\nup 1\n.\nclose 2\n | 10 write 1 -> 7 | output fault | refused un
 replay | close 1\nprom 0\nup 1\n.\nclose 2\n | 10 write 3 -> 7 | output fault | refused unknown run 1\n

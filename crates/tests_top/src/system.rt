@@ -158,7 +158,7 @@ impl rt::Clock for Dial {
     }
 }
 
-/// The last answer stands where the system gives no time, or one after 2^48 - 1 ms.
+/// The last answer is given again where the system gives no time, or one after 2^48 - 1 ms.
 #[test]
 fn tells_the_time(rt: HostRuntime) {
     let dial = Dial(Cell::new(None));

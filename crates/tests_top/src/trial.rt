@@ -74,9 +74,9 @@ fn words_of(alloc: Global, words: &str) -> Result<Vec<String>, AllocError> {
 
 /// Whether a run leaves what its row says: `WORDS | INPUT | HOW -> STATUS | NOTE | OUTPUT`.
 ///
-/// Texts are written as `text_of` reads them. HOW is `any` where the run is made three times, with pieces of
-/// one byte, of seven, and of all; else the greatest piece, `all` or a number, and behind it `read K` or `write K`
-/// where the call of that number fails.
+/// Texts are written as `text_of` reads them. HOW is `any` where the run is made three times, with
+/// pieces of one byte, of seven, and of all; else the greatest piece, `all` or a number, and after
+/// it `read K` or `write K` where the call of that number fails.
 pub(crate) fn is_right(alloc: Global, row: &str) -> Result<bool, AllocError> {
     let Some((given, due)) = row.split_once(" -> ") else {
         return Ok(false);
@@ -124,7 +124,7 @@ fn how_of(text: &str) -> Option<How> {
     })
 }
 
-/// What a run has to leave by the part of its row behind the arrow, in the form of `left`.
+/// What a run has to leave by the part of its row after the arrow, in the form of `left`.
 fn due_of(alloc: Global, due: &str) -> Result<Vec<u8>, AllocError> {
     let mut left = Vec::new(alloc);
     for (number, part) in due.split(" | ").enumerate() {
@@ -148,8 +148,9 @@ fn push_note(left: &mut Vec<u8>, note: &str) -> Result<(), AllocError> {
     Ok(())
 }
 
-/// The bytes that a text of a row stands for: `-` for none, `<S>` for the reply with the series S, and `«N×T»`
-/// for N times the text T, in which a `#` stands for the number of the turn, from 0 on. Else as `bytes_of` reads it.
+/// The bytes that a text of a row stands for: `-` for none, `<S>` for the reply with the series S,
+/// and `«N×T»` for N times the text T, in which a `#` stands for the number of the copy, from 0 on.
+/// Else as `bytes_of` reads it.
 pub(crate) fn text_of(alloc: Global, text: &str) -> Result<Vec<u8>, AllocError> {
     let mut bytes = Vec::new(alloc);
     for piece in text.split('«') {

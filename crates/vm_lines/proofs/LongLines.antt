@@ -9,7 +9,7 @@ use Rattle.vm_outside.proofs.Streams.{gives_more}
 use Rattle.vm_lines.specs.Feeds.{HasNoFeed, IsFirstFeed}
 use Rattle.vm_lines.specs.Lines.{without_return, is_too_long}
 use Rattle.vm_lines.specs.Reading.{Reading, rest, Moves, Reads}
-use Rattle.vm_lines.specs.Steps.{Takes}
+use Rattle.vm_lines.specs.inner.Steps.{Takes}
 use Rattle.vm_lines.specs.declared.step.Step.TheVariants.{TooLong}
 use Rattle.vm_lines.proofs.LineLaws.{clear-append, line_ahead}
 use Rattle.vm_lines.proofs.ReadingLaws.{moves_rest, first_by_feed, first_by_end, spent_rest}
@@ -83,20 +83,22 @@ long_feed {before} {late = late} {left_before} {left_now = left_now} {at = at} n
     )
 
 -- the end of the input came
-pub long_end_moves : {before mid now : Reading} {left_before left_mid left_now : Option (List ℕ)} {n : ℕ}
-    (l : IsLong before mid left_before left_mid) → Takes mid now n left_mid left_now → n ≡ 0
-    → Moves before now left_before left_now l.gone
-long_end_moves {before} {now = now} {left_before} {left_now = left_now} l took zero =
-    subst (Moves before now left_before left_now) (append-nil l.gone) (long_moves now [] l took refl refl)
+pub long_end_moves : {before mid late : Reading} {left_before left_mid left_now : Option (List ℕ)} {n : ℕ}
+    (now : Reading) (l : IsLong before mid left_before left_mid) → Takes mid late n left_mid left_now → n ≡ 0
+    → now.ahead ≡ [] → now.taken ≡ late.taken → Moves before now left_before left_now l.gone
+long_end_moves {before} {left_before = left_before} {left_now = left_now} now l took zero none same =
+    subst (Moves before now left_before left_now) (append-nil l.gone)
+    (long_moves now [] l took same (still took zero ∙ l.none ∙ sym none))
 
-pub long_end : {before mid now : Reading} {left_before left_mid left_now : Option (List ℕ)} {n : ℕ}
-    → IsLong before mid left_before left_mid → Takes mid now n left_mid left_now → n ≡ 0
+pub long_end : {before mid late : Reading} {left_before left_mid left_now : Option (List ℕ)} {n : ℕ}
+    (now : Reading) → IsLong before mid left_before left_mid → Takes mid late n left_mid left_now → n ≡ 0
+    → now.ahead ≡ [] → now.taken ≡ late.taken
     → Told left_mid (λ bytes. (n ≡ 0) ↔ (bytes ≡ [])) → Reads TooLong before now left_before left_now
-long_end {before} {now = now} {left_before} {left_now = left_now} l took zero told =
+long_end {before} {left_before = left_before} {left_now = left_now} now l took zero none same told =
     let some : l.gone ≡ [] → ⊥ = λ is. omega (arith, ap length is, l.long) in (
       without_return l.gone,
       too_long l.gone l.long,
       first_by_end (rest before left_before) (rest now left_now) l.gone l.clear some
-          (spent_rest now left_now (still took zero ∙ l.none) (spent took zero told))
-          (moves_rest (long_end_moves l took zero)),
+          (spent_rest now left_now none (spent took zero told))
+          (moves_rest (long_end_moves now l took zero none same)),
     )

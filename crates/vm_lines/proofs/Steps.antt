@@ -1,5 +1,5 @@
 -- A call that comes to the end of a line, or to the end of the input.
-use Rattle.std.proofs.Common.{◌≡◌, ℕ, ◌+◌, ◌^◌, ◌<◌, ◌≤◌, ◌↔◌, List, [], ◌∷◌, ◌++◌, length, take, drop, Option, Some, None, Ok, refl, sym, ap, ◌∙◌, append_assoc, append-nil, length-append, arith, subst}
+use Rattle.std.proofs.Common.{◌≡◌, ℕ, ◌+◌, ◌^◌, ◌<◌, ◌≤◌, ◌↔◌, Bool, true, List, [], ◌∷◌, ◌++◌, length, take, drop, Option, Some, None, Ok, refl, sym, ap, ◌∙◌, inl, inr, append_assoc, append-nil, length-append, arith, subst}
 use Rattle.std.proofs.lemmas.List.{nil_from_length}
 use Rattle.std.specs.Option.{option_map}
 use Rattle.vm_outside.specs.Outside.{Told}
@@ -7,7 +7,7 @@ use Rattle.vm_outside.proofs.Streams.{gives_nothing, gives_more}
 use Rattle.vm_lines.specs.Feeds.{HasNoFeed, IsFirstFeed}
 use Rattle.vm_lines.specs.Lines.{lines, without_return}
 use Rattle.vm_lines.specs.Reading.{Reading, rest, IsSpent, IsFirstLine, Moves, GoesThrough, GoesOn, to_go, Reads}
-use Rattle.vm_lines.specs.Steps.{Takes, Shows, Ends}
+use Rattle.vm_lines.specs.inner.Steps.{Takes, Shows, Ends}
 use Rattle.vm_lines.specs.declared.step.Step.{Step}
 use Rattle.vm_lines.specs.declared.step.Step.TheVariants.{Line, TooLong, End}
 use Rattle.vm_lines.proofs.LineLaws.{line_ahead}
@@ -72,13 +72,13 @@ fewer {before} {now} {through = through} ahead within m some =
       length-append through now.ahead,
     )
 
-pub nearer : (step : Step) {before now : Reading} {left_before left_now : Option (List ℕ)} {through : List ℕ}
+pub nearer : (step : Step) (ended : Bool) {before now : Reading} {left_before left_now : Option (List ℕ)} {through : List ℕ}
     → length before.ahead ≤ before.taken → now.taken ≤ 2 ^ 62
-    → Moves before now left_before left_now through → GoesThrough (Ok step) through
+    → Moves before now left_before left_now through → GoesThrough (Ok step) ended through
     → GoesOn step before now
-nearer Line ahead within m some = fewer ahead within m some
-nearer TooLong ahead within m some = fewer ahead within m some
-nearer End ahead within m some = tt
+nearer Line ended ahead within m goes = fewer ahead within m goes.0
+nearer TooLong ended ahead within m goes = fewer ahead within m goes.0
+nearer End ended ahead within m goes = tt
 
 -- the end of a line
 
@@ -109,12 +109,12 @@ line_reads step {before} {mid} {left_before} {left_now} {at} now m found behind 
     (first_by_feed (rest before left_before) (rest now left_now) (take at mid.ahead) found.clear
     (moves_rest (line_moves now m found behind same)))
 
--- a line and its line feed are some bytes
-pub line_through : (step : Step) (piece line front : List ℕ) → Shows step piece line
-    → GoesThrough (Ok step) (front ++ (10 ∷ []))
-line_through Line piece line front shows = omega (arith, length-append front (10 ∷ []))
-line_through TooLong piece line front shows = omega (arith, length-append front (10 ∷ []))
-line_through End piece line front shows = absurd shows
+-- a line and its line feed are some bytes that a line feed ends
+pub line_through : (step : Step) (ended : Bool) (piece line front : List ℕ) → Shows step piece line
+    → GoesThrough (Ok step) ended (front ++ (10 ∷ []))
+line_through Line ended piece line front shows = (omega (arith, length-append front (10 ∷ [])), inl (front, refl))
+line_through TooLong ended piece line front shows = (omega (arith, length-append front (10 ∷ [])), inl (front, refl))
+line_through End ended piece line front shows = absurd shows
 
 -- the end of the input
 
@@ -183,7 +183,8 @@ some_bytes [] some = absurd (some refl)
 some_bytes (byte ∷ more) some = omega arith
 
 -- what the end of the input ends is gone through
-pub end_through : (step : Step) (piece line : List ℕ) → Ends step piece line → GoesThrough (Ok step) piece
-end_through Line piece line ends = some_bytes piece ends.0
-end_through TooLong piece line ends = some_bytes piece ends.0
-end_through End piece line ends = ends
+pub end_through : (step : Step) (ended : Bool) (piece line : List ℕ) → Ends step piece line → ended ≡ true
+    → GoesThrough (Ok step) ended piece
+end_through Line ended piece line ends is = (some_bytes piece ends.0, inr is)
+end_through TooLong ended piece line ends is = (some_bytes piece ends.0, inr is)
+end_through End ended piece line ends is = ends

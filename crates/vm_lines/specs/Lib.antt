@@ -1,5 +1,4 @@
 pub mod Feeds
-pub mod Held
 pub mod Lines
 pub mod Reading
-pub mod Steps
+pub mod inner

@@ -1,5 +1,5 @@
 -- An input that is read line by line.
-use Rattle.std.specs.Prelude.{◌≡◌, ℕ, ◌+◌, ◌-◌, ◌<◌, ◌^◌, true, false, List, [], ◌∷◌, ◌++◌, length, Option, Result, Ok, Err, ◌⊎◌}
+use Rattle.std.specs.Prelude.{◌≡◌, ℕ, ◌+◌, ◌-◌, ◌<◌, ◌^◌, Bool, true, false, List, [], ◌∷◌, ◌++◌, length, Option, Result, Ok, Err, ◌⊎◌}
 use Rattle.std.specs.Option.{option_map}
 use Rattle.vm_base.specs.declared.limits.TheConstants.{MAX_IMPORT_LINE}
 use Rattle.vm_outside.specs.Outside.{Gives}
@@ -17,6 +17,8 @@ pub record Reading : Type 0 where
   pub ahead : List ℕ
   -- how many bytes were taken from the source
   pub taken : ℕ
+  -- whether the end of the source was met
+  pub ended : Bool
 
 -- what is still to be read: the bytes ahead, and what the source has left, where it tells that
 abbrev pub rest : Reading → Option (List ℕ) → Option (List ℕ)
@@ -30,6 +32,10 @@ IsFirstLine before line now =
 -- nothing is left, where that is told
 abbrev pub IsSpent : Option (List ℕ) → Type 0
 IsSpent left = left ≡ option_map (λ _. []) left
+
+-- a reader that met the end holds a source of which nothing is left, and took less than 2^62 bytes of it
+abbrev pub KnowsEnd : Reading → Option (List ℕ) → Type 0
+KnowsEnd reading left = reading.ended ≡ true → IsSpent left × (reading.taken < 2 ^ 62)
 
 -- What a call came to: the first line of what was to be read, a first line that is too long and isn't
 -- shown, or the end of the input, which was met before 2^62 bytes were taken.
@@ -63,11 +69,19 @@ pub record Moves (before now : Reading) (left_before left_now : Option (List ℕ
   pub counted : now.taken ≡ before.taken + length piece
   pub behind : before.ahead ++ piece ≡ through ++ now.ahead
 
--- How much a call goes through: some bytes up to the end of a line, none at the end of the input. An
+-- bytes that a line feed ends
+abbrev pub EndsInFeed : List ℕ → Type 0
+EndsInFeed bytes = (front : List ℕ) × (bytes ≡ front ++ 10 ∷ [])
+
+-- some bytes that a line feed ends, or the end of the input
+abbrev pub EndsLine : List ℕ → Bool → Type 0
+EndsLine through ended = (0 < length through) × (EndsInFeed through ⊎ (ended ≡ true))
+
+-- How much a call goes through: the bytes up to the end of a line, none at the end of the input. An
 -- error goes through none but those of a line that is too long and has no end in them.
-abbrev pub GoesThrough : Result Step LineFault → List ℕ → Type 0
-GoesThrough (Ok Line) through = 0 < length through
-GoesThrough (Ok TooLong) through = 0 < length through
-GoesThrough (Ok End) through = through ≡ []
-GoesThrough (Err fault) through =
+abbrev pub GoesThrough : Result Step LineFault → Bool → List ℕ → Type 0
+GoesThrough (Ok Line) ended through = EndsLine through ended
+GoesThrough (Ok TooLong) ended through = EndsLine through ended
+GoesThrough (Ok End) ended through = through ≡ []
+GoesThrough (Err fault) ended through =
     (through ≡ []) ⊎ (HasNoFeed through × (MAX_IMPORT_LINE + 1 < length through))

@@ -2,7 +2,7 @@
 
 ghost use Rattle.std.specs.Prelude.{◌≡◌, ℕ, ◌+◌, ◌-◌, ◌<◌, ◌≤◌, ◌↔◌, List, [], length, take, drop, IfOk, OnOk, OnErr};
 ghost use Rattle.vm_outside.specs.Outside.{Gives, Rose, Told};
-ghost use Rattle.vm_lines.specs.Held.{Bytes, HasRead};
+ghost use Rattle.vm_lines.specs.inner.Held.{Bytes, HasRead};
 
 use std::alloc::{AllocError, Global};
 use std::marker::Model;
@@ -37,7 +37,7 @@ pub struct Held {
 
 impl Model for Held {
     ghost use Rattle.std.specs.Prelude.{◌≤◌, ◌-◌, take, drop, vec_len};
-    ghost use Rattle.vm_lines.specs.Held.{Bytes};
+    ghost use Rattle.vm_lines.specs.inner.Held.{Bytes};
     ghost use Rattle.vm_lines.specs.declared.held.TheConstants.{FIRST, MOST};
 
     ghost Value = { Bytes };

@@ -1,11 +1,11 @@
 //! The reader of lines.
 
-ghost use Rattle.std.specs.Prelude.{◌≡◌, ℕ, ◌+◌, ◌<◌, ◌≤◌, ◌↔◌, ◌^◌, List, [], ◌++◌, length, take, drop, IfOk, OnOk, OnErr, IsErrOf, Ok, Err};
+ghost use Rattle.std.specs.Prelude.{◌≡◌, ℕ, ◌+◌, ◌<◌, ◌≤◌, ◌↔◌, ◌^◌, List, [], ◌++◌, length, take, drop, true, false, IfOk, OnOk, OnErr, IsErrOf, Ok, Err};
 ghost use Rattle.std.specs.Bool.{OnTrue, OnFalse};
 ghost use Rattle.vm_outside.specs.Outside.{Gives, Rose, Told};
 ghost use Rattle.vm_lines.specs.Feeds.{HasNoFeed, IsFirstFeed};
-ghost use Rattle.vm_lines.specs.Reading.{Reads, GoesOn, Moves, GoesThrough};
-ghost use Rattle.vm_lines.specs.Steps.{Takes, Shows, Ends};
+ghost use Rattle.vm_lines.specs.Reading.{KnowsEnd, Reads, GoesOn, Moves, GoesThrough};
+ghost use Rattle.vm_lines.specs.inner.Steps.{Takes, Shows, Ends};
 
 use crate::fault::LineFault;
 use crate::feed::{first_feed, line_feed, without_return};
@@ -24,23 +24,32 @@ use vm_outside::{Failed, Source};
 pub struct LineReader {
     held: Held,
     taken: u64,
+    /// Whether the end of the input was met. It isn't asked for again.
+    ended: bool,
 }
 
 impl Model for LineReader {
-    ghost use Rattle.std.specs.Prelude.{◌≤◌, ◌^◌, length};
+    ghost use Rattle.std.specs.Prelude.{◌≡◌, ◌≤◌, ◌^◌, true, [], length};
     ghost use Rattle.vm_lines.specs.Reading.{Reading};
 
     ghost Value = { Reading };
 
-    ghost view = { λ r. record { line = r.held.line; ahead = r.held.ahead; taken = r.taken } };
+    ghost view = { λ r. record {
+      line = r.held.line;
+      ahead = r.held.ahead;
+      taken = r.taken;
+      ended = r.ended;
+    } };
 
-    ghost invariant = { λ r. (r.taken ≤ 2 ^ 62) × (length r.held.ahead ≤ r.taken) };
+    ghost invariant = { λ r. (r.taken ≤ 2 ^ 62) × (length r.held.ahead ≤ r.taken)
+        × (r.ended ≡ true → r.held.ahead ≡ []) };
 }
 
 impl LineReader {
     /// A reader that has taken nothing yet. Its line is empty.
     pub fn new(alloc: Global) -> Result<LineReader, AllocError>
-        ensures { IfOk result (λ reader. reader ≡ record { line = []; ahead = []; taken = 0 }) }
+        ensures { IfOk result (λ reader.
+            reader ≡ record { line = []; ahead = []; taken = 0; ended = false }) }
     {
         LineReader::after(alloc, 0)
     }
@@ -48,10 +57,15 @@ impl LineReader {
     /// A reader of what follows the first `taken` bytes of an input, which count as taken. Its line is empty.
     pub fn after(alloc: Global, taken: u64) -> Result<LineReader, AllocError>
         requires { taken ≤ 2 ^ 62 }
-        ensures { IfOk result (λ reader. reader ≡ record { line = []; ahead = []; taken = taken }) }
+        ensures { IfOk result (λ reader.
+            reader ≡ record { line = []; ahead = []; taken = taken; ended = false }) }
     {
         let held = Held::new(alloc)?;
-        Ok(LineReader { held, taken })
+        Ok(LineReader {
+            held,
+            taken,
+            ended: false,
+        })
     }
 
     /// The line that `advance` came to, without its line feed and carriage return. What it shows after
@@ -65,16 +79,21 @@ impl LineReader {
     /// Goes to the next line.
     ///
     /// It reads from the input only where no whole line stands in the buffer, and shows all whole lines
-    /// of the first `MAX_INPUT` bytes before it answers `InputTooLong`. After `End` another call reads
-    /// again, and comes to the end again where the input still is at its end.
+    /// of the first `MAX_INPUT` bytes before it answers `InputTooLong`. Once the end of the input was met,
+    /// the input is not read again, and after its last line each call answers `End`.
     ///
     /// After an error another call may go on. No byte is lost but those of a line that is too long: where
     /// the error came amid one, the next call takes the rest of it for a line.
     pub fn advance<S: Source>(&mut self, input: &mut S) -> Result<Step, LineFault>
         // What `Ok` holds.
-        ensures reads { IfOk result (λ step.
+        ensures reads { KnowsEnd self.old (S.left input.old) → IfOk result (λ step.
             Reads step self.old self.new (S.left input.old) (S.left input.new)) }
         ensures goes_on { IfOk result (λ step. GoesOn step self.old self.new) }
+
+        // The end of the input is met once.
+        ensures once { self.old.ended ≡ true →
+            (result ≡ Ok Step.End) × (self.new ≡ self.old) × (input.new ≡ input.old) }
+        ensures end { KnowsEnd self.old (S.left input.old) → KnowsEnd self.new (S.left input.new) }
 
         // When each error comes.
         ensures input_fault { IsErrOf result LineFault.Input
@@ -90,9 +109,12 @@ impl LineReader {
         // What each call does to the bytes.
         ensures moves { (through : List ℕ)
             × Moves self.old self.new (S.left input.old) (S.left input.new) through
-            × GoesThrough result through }
+            × GoesThrough result self.new.ended through }
         ensures counted { S.faults input.old ≤ S.faults input.new }
     {
+        if self.ended {
+            return Ok(Step::End);
+        }
         match first_feed(self.ahead()) {
             Some(at) => Ok(self.give(at, at + 1)),
             None => self.read_on(input),
@@ -111,11 +133,13 @@ impl LineReader {
     /// Shows the first `len` bytes ahead as a line, unless it is too long, and goes on behind the first
     /// `used` ones.
     fn give(&mut self, len: usize, used: usize) -> Step
+        requires before_end { self.old.ended ≡ false }
         requires len { len ≤ length self.old.ahead }
         requires used { used ≤ length self.old.ahead }
         ensures line { Shows result (take len self.old.ahead) self.new.line }
         ensures ahead { self.new.ahead ≡ drop used self.old.ahead }
         ensures taken { self.new.taken ≡ self.old.taken }
+        ensures before_end { self.new.ended ≡ false }
     {
         let line = without_return(first(self.ahead(), len)).len();
         if line as u64 > MAX_IMPORT_LINE {
@@ -128,17 +152,19 @@ impl LineReader {
 
     /// Takes pieces until a line ends in them, the input ends, or the line is too long to be held.
     fn read_on<S: Source>(&mut self, input: &mut S) -> Result<Step, LineFault>
-        requires { HasNoFeed self.old.ahead }
+        requires before_end { self.old.ended ≡ false }
+        requires clear { HasNoFeed self.old.ahead }
         ensures reads { IfOk result (λ step.
             Reads step self.old self.new (S.left input.old) (S.left input.new)) }
         ensures goes_on { IfOk result (λ step. GoesOn step self.old self.new) }
+        ensures end { KnowsEnd self.new (S.left input.new) }
         ensures input_fault { IsErrOf result LineFault.Input
             → Rose (S.faults input.old) (S.faults input.new) }
         ensures limit { IsErrOf result LineFault.InputTooLong → self.new.taken ≡ 2 ^ 62 }
         ensures needed { OnErr result (HasNoFeed self.new.ahead) }
         ensures moves { (through : List ℕ)
             × Moves self.old self.new (S.left input.old) (S.left input.new) through
-            × GoesThrough result through }
+            × GoesThrough result self.new.ended through }
         ensures counted { S.faults input.old ≤ S.faults input.new }
     {
         let mut searched = self.ahead().len();
@@ -154,39 +180,58 @@ impl LineReader {
         self.let_go(input)
     }
 
-    /// What stands ahead at the end of the input.
+    /// What stands ahead at the end of the input, which was met now.
     fn last(&mut self) -> Step
-        requires { HasNoFeed self.old.ahead }
+        requires before_end { self.old.ended ≡ false }
+        requires clear { HasNoFeed self.old.ahead }
         ensures line { Ends result self.old.ahead self.new.line }
         ensures ahead { self.new.ahead ≡ [] }
         ensures taken { self.new.taken ≡ self.old.taken }
+        ensures ended { self.new.ended ≡ true }
     {
         let len = self.ahead().len();
         if len == 0 {
+            self.end();
             return Step::End;
         }
-        self.give(len, len)
+        let step = self.give(len, len);
+        self.end();
+        step
+    }
+
+    /// Keeps in mind that the end of the input was met.
+    fn end(&mut self)
+        requires { self.old.ahead ≡ [] }
+        ensures line { self.new.line ≡ self.old.line }
+        ensures ahead { self.new.ahead ≡ [] }
+        ensures taken { self.new.taken ≡ self.old.taken }
+        ensures ended { self.new.ended ≡ true }
+    {
+        self.ended = true;
     }
 
     /// Lets go of a line that is too long.
     fn let_go<S: Source>(&mut self, input: &mut S) -> Result<Step, LineFault>
+        requires before_end { self.old.ended ≡ false }
         requires clear { HasNoFeed self.old.ahead }
         requires long { LONGEST < length self.old.ahead }
         ensures reads { IfOk result (λ step.
             Reads step self.old self.new (S.left input.old) (S.left input.new)) }
         ensures goes_on { IfOk result (λ step. GoesOn step self.old self.new) }
+        ensures end { KnowsEnd self.new (S.left input.new) }
         ensures input_fault { IsErrOf result LineFault.Input
             → Rose (S.faults input.old) (S.faults input.new) }
         ensures limit { IsErrOf result LineFault.InputTooLong → self.new.taken ≡ 2 ^ 62 }
         ensures needed { OnErr result (HasNoFeed self.new.ahead) }
         ensures moves { (through : List ℕ)
             × Moves self.old self.new (S.left input.old) (S.left input.new) through
-            × GoesThrough result through }
+            × GoesThrough result self.new.ended through }
         ensures counted { S.faults input.old ≤ S.faults input.new }
     {
         self.skip_all();
         'pieces: loop {
             if self.take_piece(input)? == 0 {
+                self.end();
                 return Ok(Step::TooLong);
             }
             if self.skip_line() {
@@ -197,9 +242,11 @@ impl LineReader {
 
     /// Goes on behind all bytes ahead.
     fn skip_all(&mut self)
+        requires before_end { self.old.ended ≡ false }
         ensures within { length self.old.ahead ≤ self.old.taken }
         ensures ahead { self.new.ahead ≡ [] }
         ensures taken { self.new.taken ≡ self.old.taken }
+        ensures before_end { self.new.ended ≡ false }
     {
         let all = self.ahead().len();
         self.held.give(0, all);
@@ -208,10 +255,12 @@ impl LineReader {
     /// Goes on behind the first line feed, or behind all bytes where there is none. Answers whether there
     /// is one.
     fn skip_line(&mut self) -> bool
+        requires before_end { self.old.ended ≡ false }
         ensures found { OnTrue result ((at : ℕ) × IsFirstFeed self.old.ahead at
             × (self.new.ahead ≡ drop (at + 1) self.old.ahead)) }
         ensures missing { OnFalse result (HasNoFeed self.old.ahead × (self.new.ahead ≡ [])) }
         ensures taken { self.new.taken ≡ self.old.taken }
+        ensures before_end { self.new.ended ≡ false }
     {
         match first_feed(self.ahead()) {
             Some(at) => {
@@ -227,7 +276,8 @@ impl LineReader {
 
     /// Takes a piece from the input. 0 is its end.
     fn take_piece<S: Source>(&mut self, input: &mut S) -> Result<usize, LineFault>
-        requires { length self.old.ahead ≤ LONGEST }
+        requires before_end { self.old.ended ≡ false }
+        requires fits { length self.old.ahead ≤ LONGEST }
         ensures took { IfOk result (λ n.
             Takes self.old self.new n (S.left input.old) (S.left input.new)) }
         ensures below { OnOk result (self.old.taken < 2 ^ 62) }
@@ -239,6 +289,7 @@ impl LineReader {
         ensures input_fault { IsErrOf result LineFault.Input
             → Rose (S.faults input.old) (S.faults input.new) }
         ensures limit { IsErrOf result LineFault.InputTooLong → self.old.taken ≡ 2 ^ 62 }
+        ensures before_end { self.new.ended ≡ false }
         ensures counted { S.faults input.old ≤ S.faults input.new }
     {
         if self.taken >= MAX_INPUT {

@@ -1,7 +1,8 @@
 -- What a store means: one list of accepted batches, and the runs of queries that are open. It has no
 -- files, blocks or merges. Whatever keeps the samples answers as this machine does.
-use Rattle.std.specs.Prelude.{◌≡◌, ℕ, ◌+◌, ◌==◌, ◌||◌, ◌&&◌, nat_lt, nat_le, not, Bool, List, [], ◌∷◌, ◌++◌, length, take, drop, filter, map, flat_map, Option, Some, None, Result, Ok, Err, if◌then◌else◌}
+use Rattle.std.specs.Prelude.{◌≡◌, ℕ, ◌+◌, ◌==◌, ◌||◌, ◌&&◌, nat_lt, nat_le, not, Bool, true, false, List, [], ◌∷◌, ◌++◌, length, take, drop, filter, map, flat_map, Option, Some, None, Result, Ok, Err, if◌then◌else◌}
 use Rattle.std.specs.List.{find}
+use Rattle.std.specs.Option.{is_some}
 use Rattle.vm_labels.specs.declared.row.Batch.{Batch}
 use Rattle.vm_labels.specs.declared.row.Row.{Row}
 use Rattle.vm_machine.specs.Batches.{row_count}
@@ -118,17 +119,18 @@ step state (read number) = read_step (run_of number state.runs) state number
 step state (end number) = end_step (run_of number state.runs) state number
 step state (close number) = close_step (run_of number state.runs) state number
 
--- What want of memory leaves: all as it was, but that a run which was to end is gone.
-abbrev pub after_memory : State → Event → State
-after_memory state (end number) = without state number
-after_memory state (import batch) = state
-after_memory state (begin number asked) = state
-after_memory state (read number) = state
-after_memory state (close number) = state
+-- Where memory may run out, and what that leaves. A batch that finds room and a run that may begin leave all
+-- as it was; a run that was to end is gone. Nothing else takes memory.
+abbrev pub IsOutOfMemory : State → Event → State → Type 0
+IsOutOfMemory state (import batch) now = (is_full state batch ≡ false) × (now ≡ state)
+IsOutOfMemory state (begin number asked) now = (run_of number state.runs ≡ None) × (now ≡ state)
+IsOutOfMemory state (end number) now = (is_some (run_of number state.runs) ≡ true) × (now ≡ without state number)
+IsOutOfMemory state (read number) now = ⊥
+IsOutOfMemory state (close number) now = ⊥
 
--- what comes of an event: want of memory may be answered at any, and else the machine's own answer
+-- what comes of an event: the machine's own answer, or that memory ran out
 abbrev pub Steps : State → Event → State → Result Answer Refusal → Type 0
-Steps state event now (Err refusal.Memory) = now ≡ after_memory state event
+Steps state event now (Err refusal.Memory) = IsOutOfMemory state event now
 Steps state event now answer = (now, answer) ≡ step state event
 
 -- what a call gives, as an answer of the machine

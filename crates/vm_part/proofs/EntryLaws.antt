@@ -1,42 +1,62 @@
 -- Entries one by one, and what their rules say of places, rows and times.
-use Rattle.std.proofs.Common.{◌≡◌, ℕ, zero, suc, ◌+◌, ◌-◌, ◌*◌, ◌≤◌, ◌<◌, Bool, true, false, ◌&&◌, ◌||◌, cond, if◌then◌else◌, nat_le, nat_lt, ◌==◌, List, [], ◌∷◌, ◌++◌, length, get_or, take, map, sum, Option, Some, None, refl, ap, ap₂, sym, ◌∙◌, subst, inl, inr, append_assoc, arith}
+use Rattle.std.proofs.Common.{◌≡◌, ℕ, zero, suc, ◌+◌, ◌-◌, ◌*◌, ◌≤◌, ◌<◌, Bool, true, false, ◌&&◌, ◌||◌, cond, nat_le, nat_lt, ◌==◌, not, List, [], ◌∷◌, ◌++◌, length, Option, Some, None, refl, ap, ap₂, sym, ◌∙◌, subst, inl, inr, append_assoc, arith}
 use Rattle.std.specs.List.{sum_by}
 use Rattle.std.proofs.lemmas.Bool.{and_parts, cases_eq, eq-eqb, eqb-true, leb-true, ltb-true, ne_eqb}
-use Rattle.std.proofs.lemmas.List.{take_all}
-use Rattle.std.proofs.lemmas.List.Sums.{sum-map, sum_by_more, sum_by_more_le}
+use Rattle.std.proofs.lemmas.List.Sums.{sum_by-cons}
 use Rattle.vm_block.specs.Header.{first_broken, is_last_time, is_time}
 use Rattle.vm_part.specs.Broken.{ends_there, entries_at, entries_rules, entry_at, entry_rules, may_start, none_without_blocks}
-use Rattle.vm_part.specs.Reading.{IsFaultOf, PlacesRise, entries_section_rules}
+use Rattle.vm_part.specs.Reading.{PlacesRise}
 use Rattle.vm_part.specs.declared.entry.Entry.{Entry}
-use Rattle.vm_part.specs.declared.fault.ReadFault.{ReadFault}
-use Rattle.vm_part.specs.declared.fault.ReadFault.TheVariants.{Broken, Memory}
-use Rattle.vm_part.specs.declared.footer.Footer.{Footer}
 use Rattle.vm_part.proofs.RuleLaws.{broken_front, kept_front, kept_one, kept_parts}
 
 -- ---- a loop over entries
 
-module _ (end : ℕ) (bytes : List ℕ) where
-  pub entry_kept : (m n at next : ℕ) (before : Option Entry) (is_last : Bool) (e : Entry) (whole : Option ℕ)
-      → m ≡ suc n → next ≡ at + 40 → is_last ≡ (n == 0) → e ≡ entry_at at bytes
-      → first_broken (entry_rules end at before is_last e) ≡ None → first_broken (entries_rules end bytes m at before) ≡ whole
-      → first_broken (entries_rules end bytes n next (Some e)) ≡ whole
-  entry_kept m n at next before is_last e whole m_is next_is last_is e_is kept so_far =
-      ap₂ (λ a x. first_broken (entries_rules end bytes n a (Some x))) next_is e_is
-      ∙ sym (kept_front (entry_rules end at before (n == 0) (entry_at at bytes)) (entries_rules end bytes n (at + 40) (Some (entry_at at bytes)))
-      (ap₂ (λ l x. first_broken (entry_rules end at before l x)) (sym last_is) (sym e_is) ∙ kept))
-      ∙ ap (λ k. first_broken (entries_rules end bytes k at before)) (sym m_is) ∙ so_far
+module _ (end : ℕ) (bytes : List ℕ) (rows : ℕ) where
+  -- the rules of the entry at a place, where so many stand after it
+  abbrev rules_here : (n at : ℕ) → Option Entry → (so_far : ℕ) → List (ℕ × Bool)
+  rules_here n at before so_far =
+      let e = entry_at at bytes in
+      entry_rules end at before (n == 0) (not (n == 0) || so_far + e.rows == rows) e
 
-  pub entry_broken : (m n at p : ℕ) (before : Option Entry) (is_last : Bool) (e : Entry) (whole : Option ℕ)
-      → m ≡ suc n → is_last ≡ (n == 0) → e ≡ entry_at at bytes
-      → first_broken (entry_rules end at before is_last e) ≡ Some p → first_broken (entries_rules end bytes m at before) ≡ whole → whole ≡ Some p
-  entry_broken m n at p before is_last e whole m_is last_is e_is broken so_far =
-      sym so_far ∙ ap (λ k. first_broken (entries_rules end bytes k at before)) m_is
-      ∙ broken_front (entry_rules end at before (n == 0) (entry_at at bytes)) (entries_rules end bytes n (at + 40) (Some (entry_at at bytes))) p
-      (ap₂ (λ l x. first_broken (entry_rules end at before l x)) (sym last_is) (sym e_is) ∙ broken)
+  abbrev rules_behind : (n at so_far : ℕ) → List (ℕ × Bool)
+  rules_behind n at so_far =
+      let e = entry_at at bytes in
+      entries_rules end bytes rows n (at + 40) (Some e) (so_far + e.rows)
 
-  pub entries_kept : (m at : ℕ) (before : Option Entry) (whole : Option ℕ) → m ≡ 0
-      → first_broken (entries_rules end bytes m at before) ≡ whole → whole ≡ None
-  entries_kept m at before whole m_is so_far = sym so_far ∙ ap (λ k. first_broken (entries_rules end bytes k at before)) m_is
+  with_entry : (at so_far more : ℕ) (e : Entry) → e ≡ entry_at at bytes → more ≡ so_far + e.rows → more ≡ so_far + (entry_at at bytes).rows
+  with_entry at so_far more e e_is more_is = more_is ∙ ap (λ (x : Entry). so_far + x.rows) e_is
+
+  are_here : (n at so_far more : ℕ) (before : Option Entry) (is_last adds_up : Bool) (e : Entry) → is_last ≡ (n == 0) → e ≡ entry_at at bytes
+      → more ≡ so_far + e.rows → adds_up ≡ (not is_last || more == rows) → entry_rules end at before is_last adds_up e ≡ rules_here n at before so_far
+  are_here n at so_far more before is_last adds_up e last_is e_is more_is adds =
+      let more_there = with_entry at so_far more e e_is more_is in
+      let adds_there : adds_up ≡ (not (n == 0) || so_far + (entry_at at bytes).rows == rows) =
+      adds ∙ (λ i. not (last_is i) || more_there i == rows) in
+      λ i. entry_rules end at before (last_is i) (adds_there i) (e_is i)
+
+  pub entry_kept : (m n at next so_far more : ℕ) (before : Option Entry) (is_last adds_up : Bool) (e : Entry) (whole : Option ℕ)
+      → m ≡ suc n → next ≡ at + 40 → is_last ≡ (n == 0) → e ≡ entry_at at bytes → more ≡ so_far + e.rows → adds_up ≡ (not is_last || more == rows)
+      → first_broken (entry_rules end at before is_last adds_up e) ≡ None → first_broken (entries_rules end bytes rows m at before so_far) ≡ whole
+      → first_broken (entries_rules end bytes rows n next (Some e) more) ≡ whole
+  entry_kept m n at next so_far more before is_last adds_up e whole m_is next_is last_is e_is more_is adds kept said =
+      let more_there = with_entry at so_far more e e_is more_is in
+      (λ i. first_broken (entries_rules end bytes rows n (next_is i) (Some (e_is i)) (more_there i)))
+      ∙ sym (kept_front (rules_here n at before so_far) (rules_behind n at so_far)
+      (ap first_broken (sym (are_here n at so_far more before is_last adds_up e last_is e_is more_is adds)) ∙ kept))
+      ∙ ap (λ k. first_broken (entries_rules end bytes rows k at before so_far)) (sym m_is) ∙ said
+
+  pub entry_broken : (m n at p so_far more : ℕ) (before : Option Entry) (is_last adds_up : Bool) (e : Entry) (whole : Option ℕ)
+      → m ≡ suc n → is_last ≡ (n == 0) → e ≡ entry_at at bytes → more ≡ so_far + e.rows → adds_up ≡ (not is_last || more == rows)
+      → first_broken (entry_rules end at before is_last adds_up e) ≡ Some p → first_broken (entries_rules end bytes rows m at before so_far) ≡ whole
+      → whole ≡ Some p
+  entry_broken m n at p so_far more before is_last adds_up e whole m_is last_is e_is more_is adds broken said =
+      sym said ∙ ap (λ k. first_broken (entries_rules end bytes rows k at before so_far)) m_is
+      ∙ broken_front (rules_here n at before so_far) (rules_behind n at so_far) p
+      (ap first_broken (sym (are_here n at so_far more before is_last adds_up e last_is e_is more_is adds)) ∙ broken)
+
+  pub entries_kept : (m at so_far : ℕ) (before : Option Entry) (whole : Option ℕ) → m ≡ 0
+      → first_broken (entries_rules end bytes rows m at before so_far) ≡ whole → whole ≡ None
+  entries_kept m at so_far before whole m_is said = sym said ∙ ap (λ k. first_broken (entries_rules end bytes rows k at before so_far)) m_is
 
 pub entry_joins : (bytes : List ℕ) (m n at next : ℕ) (done news all : List Entry) (e : Entry) → m ≡ suc n → next ≡ at + 40 → e ≡ entry_at at bytes
     → news ≡ done ++ e ∷ [] → done ++ entries_at m at bytes ≡ all → news ++ entries_at n next bytes ≡ all
@@ -72,36 +92,65 @@ abbrev pub AllKeep : (end : ℕ) → Option Entry → List Entry → Type 0
 AllKeep end before [] = Unit {0}
 AllKeep end before (e ∷ more) = Keeps end before (length more == 0) e × AllKeep end (Some e) more
 
-keeps : (end at : ℕ) (before : Option Entry) (is_last : Bool) (e : Entry) → first_broken (entry_rules end at before is_last e) ≡ None → Keeps end before is_last e
-keeps end at before is_last e h =
+keeps : (end at : ℕ) (before : Option Entry) (is_last adds_up : Bool) (e : Entry) → first_broken (entry_rules end at before is_last adds_up e) ≡ None
+    → Keeps end before is_last e × (adds_up ≡ true)
+keeps end at before is_last adds_up e h =
+    let may = nat_le e.blocks e.rows && nat_le e.rows (8192 * e.blocks) in
     let r4 = (at + 32, is_last_time e.first_time e.last_time && none_without_blocks e e.last_time) ∷ [] in
     let r3 = (at + 24, is_time e.first_time && none_without_blocks e e.first_time) ∷ r4 in
-    let r2 = (at + 16, nat_le e.blocks e.rows && nat_le e.rows (8192 * e.blocks)) ∷ r3 in
+    let r2 = (at + 16, may && adds_up) ∷ r3 in
     let r1 = (at + 8, nat_le (e.start + 40 * e.blocks) end) ∷ r2 in
     let k0 = kept_one at (may_start before e.start && ends_there end is_last e) r1 h in
     let k1 = kept_one (at + 8) (nat_le (e.start + 40 * e.blocks) end) r2 k0.1 in
-    let k2 = kept_one (at + 16) (nat_le e.blocks e.rows && nat_le e.rows (8192 * e.blocks)) r3 k1.1 in
+    let k2 = kept_one (at + 16) (may && adds_up) r3 k1.1 in
     let k3 = kept_one (at + 24) (is_time e.first_time && none_without_blocks e e.first_time) r4 k2.1 in
     let k4 = kept_one (at + 32) (is_last_time e.first_time e.last_time && none_without_blocks e e.last_time) [] k3.1 in
     let place = and_parts (may_start before e.start) (ends_there end is_last e) k0.0 in
-    record {
-      start = place.0;
-      ends = place.1;
-      room = leb-true (e.start + 40 * e.blocks) end k1.0;
-      most = leb-true e.rows (8192 * e.blocks) (and_parts (nat_le e.blocks e.rows) (nat_le e.rows (8192 * e.blocks)) k2.0).1;
-      first = (and_parts (is_time e.first_time) (none_without_blocks e e.first_time) k3.0).1;
-      last = (and_parts (is_last_time e.first_time e.last_time) (none_without_blocks e e.last_time) k4.0).1;
-    }
-
-pub all_keep : (end : ℕ) (bytes : List ℕ) (n at : ℕ) (before : Option Entry) → first_broken (entries_rules end bytes n at before) ≡ None
-    → AllKeep end before (entries_at n at bytes)
-all_keep end bytes zero at before h = tt
-all_keep end bytes (suc n) at before h =
-    let e = entry_at at bytes in
-    let both = kept_parts (entry_rules end at before (n == 0) e) (entries_rules end bytes n (at + 40) (Some e)) h in (
-      subst (λ k. Keeps end before (k == 0) e) (sym (entries_many n (at + 40) bytes)) (keeps end at before (n == 0) e both.0),
-      all_keep end bytes n (at + 40) (Some e) both.1,
+    let rows = and_parts may adds_up k2.0 in (
+      record {
+        start = place.0;
+        ends = place.1;
+        room = leb-true (e.start + 40 * e.blocks) end k1.0;
+        most = leb-true e.rows (8192 * e.blocks) (and_parts (nat_le e.blocks e.rows) (nat_le e.rows (8192 * e.blocks)) rows.0).1;
+        first = (and_parts (is_time e.first_time) (none_without_blocks e e.first_time) k3.0).1;
+        last = (and_parts (is_last_time e.first_time e.last_time) (none_without_blocks e e.last_time) k4.0).1;
+      },
+      rows.1,
     )
+
+pub all_keep : (end : ℕ) (bytes : List ℕ) (rows n at : ℕ) (before : Option Entry) (so_far : ℕ)
+    → first_broken (entries_rules end bytes rows n at before so_far) ≡ None → AllKeep end before (entries_at n at bytes)
+all_keep end bytes rows zero at before so_far h = tt
+all_keep end bytes rows (suc n) at before so_far h =
+    let e = entry_at at bytes in
+    let adds_up = not (n == 0) || so_far + e.rows == rows in
+    let both =
+    kept_parts (entry_rules end at before (n == 0) adds_up e) (entries_rules end bytes rows n (at + 40) (Some e) (so_far + e.rows)) h in (
+      subst (λ k. Keeps end before (k == 0) e) (sym (entries_many n (at + 40) bytes)) (keeps end at before (n == 0) adds_up e both.0).0,
+      all_keep end bytes rows n (at + 40) (Some e) (so_far + e.rows) both.1,
+    )
+
+-- the rows of the entries from one on, with those before it, are as many as there should be in all
+add_up : (end : ℕ) (bytes : List ℕ) (rows n at : ℕ) (before : Option Entry) (so_far : ℕ)
+    → first_broken (entries_rules end bytes rows (suc n) at before so_far) ≡ None → so_far + sum_by (λ e. e.rows) (entries_at (suc n) at bytes) ≡ rows
+add_up end bytes rows zero at before so_far h =
+    let e = entry_at at bytes in
+    let adds_up = so_far + e.rows == rows in
+    let kept = kept_parts (entry_rules end at before true adds_up e) [] h in
+    let here = eqb-true (so_far + e.rows) rows (keeps end at before true adds_up e kept.0).1 in
+    omega (arith, here, sum_by-cons (λ (x : Entry). x.rows) e [])
+add_up end bytes rows (suc n) at before so_far h =
+    let e = entry_at at bytes in
+    let adds_up = not (suc n == 0) || so_far + e.rows == rows in
+    let both =
+    kept_parts (entry_rules end at before (suc n == 0) adds_up e) (entries_rules end bytes rows (suc n) (at + 40) (Some e) (so_far + e.rows)) h in
+    let behind = add_up end bytes rows n (at + 40) (Some e) (so_far + e.rows) both.1 in
+    omega (arith, behind, sum_by-cons (λ (x : Entry). x.rows) e (entries_at (suc n) (at + 40) bytes))
+
+pub all_add_up : (end : ℕ) (bytes : List ℕ) (rows many at : ℕ) → 1 ≤ many → first_broken (entries_rules end bytes rows many at None 0) ≡ None
+    → sum_by (λ e. e.rows) (entries_at many at bytes) ≡ rows
+all_add_up end bytes rows zero at some h = absurd (omega arith)
+all_add_up end bytes rows (suc n) at some h = omega (arith, add_up end bytes rows n at None 0 h)
 
 -- where a series has no blocks, the next one begins where it does
 pub record Follows (e following : Entry) : Type 0 where
@@ -145,30 +194,7 @@ places_rise end before (e ∷ f ∷ more) all =
     let room = all.1.0.room in
     (behind, omega arith, places_rise end (Some e) (f ∷ more) all.1)
 
--- ---- how many rows there are
-
-module _ (es : List Entry) (i left rows : ℕ) where
-  abbrev rows_of : Entry → ℕ
-  rows_of e = e.rows
-
-  pub rows_go_on : (d : Entry) → i < length es → (get_or es i d).rows ≤ left → left + sum_by rows_of (take i es) ≡ rows
-      → left - (get_or es i d).rows + sum_by rows_of (take (i + 1) es) ≡ rows
-  rows_go_on d within fits so_far = omega (arith, sum_by_more rows_of es i d within)
-
-  pub rows_past : (d : Entry) → i < length es → left < (get_or es i d).rows → left + sum_by rows_of (take i es) ≡ rows
-      → false ≡ (sum (map rows_of es) == rows)
-  rows_past d within past so_far =
-      sym (ne_eqb (sum (map rows_of es)) rows (λ same. absurd (omega (arith, sum-map rows_of es, sum_by_more_le rows_of es i d within))))
-
-  pub rows_end : length es ≤ i → left + sum_by rows_of (take i es) ≡ rows → (left == 0) ≡ (sum (map rows_of es) == rows)
-  rows_end past so_far =
-      let whole : left + sum (map rows_of es) ≡ rows =
-      ap (λ n. left + n) (sum-map rows_of es ∙ ap (sum_by rows_of) (sym (take_all i es past))) ∙ so_far in
-      go left (sum (map rows_of es)) whole
-    where
-      go : (n s : ℕ) → n + s ≡ rows → (n == 0) ≡ (s == rows)
-      go zero s is = sym (eq-eqb s rows (omega arith))
-      go (suc n) s is = ne_eqb (suc n) 0 (λ same. absurd (omega arith)) ∙ sym (ne_eqb s rows (λ same. absurd (omega arith)))
+-- ---- the first turn of the loop, and its last
 
 -- the last one is the one with none behind it
 pub last_test : (n many : ℕ) → n < many → (n + 1 == many) ≡ (many - (n + 1) == 0)
@@ -179,31 +205,15 @@ last_test n many inside =
     ]
 
 -- before the first entry
-pub none_kept : (end : ℕ) (bytes : List ℕ) (many at : ℕ)
-    → first_broken (entries_rules end bytes (many - 0) (at + 0) None) ≡ first_broken (entries_rules end bytes many at None)
-none_kept end bytes many at =
+pub none_kept : (end : ℕ) (bytes : List ℕ) (rows many at : ℕ)
+    → first_broken (entries_rules end bytes rows (many - 0) (at + 0) None 0) ≡ first_broken (entries_rules end bytes rows many at None 0)
+none_kept end bytes rows many at =
     let m : many - 0 ≡ many = omega arith in
     let a : at + 0 ≡ at = omega arith in
-    ap₂ (λ n p. first_broken (entries_rules end bytes n p None)) m a
+    ap₂ (λ n p. first_broken (entries_rules end bytes rows n p None 0)) m a
 
 pub none_joined : (bytes : List ℕ) (many at : ℕ) (done : List Entry) → done ≡ [] → done ++ entries_at (many - 0) (at + 0) bytes ≡ entries_at many at bytes
 none_joined bytes many at done empty =
     let m : many - 0 ≡ many = omega arith in
     let a : at + 0 ≡ at = omega arith in
     ap (λ es. es ++ entries_at (many - 0) (at + 0) bytes) empty ∙ ap₂ (λ n p. entries_at n p bytes) m a
-
--- ---- all entries and their rows
-
-pub each_fault : (xs ys : List (ℕ × Bool)) (fault : ReadFault) → IsFaultOf xs fault → IsFaultOf (xs ++ ys) fault
-each_fault xs ys Memory why = tt
-each_fault xs ys (Broken at) why = broken_front xs ys at why
-
--- where each entry keeps its rules, the number of rows decides
-pub rows_decide : (f : Footer) (bytes : List ℕ) (es : List Entry) (same : Bool) → es ≡ entries_at f.series f.entries_at bytes
-    → same ≡ (sum (map (λ e. e.rows) es) == f.rows) → first_broken (entries_rules f.entries_at bytes f.series f.entries_at None) ≡ None
-    → first_broken (entries_section_rules f bytes) ≡ (if same then None else Some (f.table_at - 24))
-rows_decide f bytes es same es_are same_is kept =
-    let test = (sum (map (λ (e : Entry). e.rows) (entries_at f.series f.entries_at bytes)) == f.rows) in
-    kept_front (entries_rules f.entries_at bytes f.series f.entries_at None) ((f.table_at - 24, test) ∷ []) kept
-    ∙ ap (λ (b : Bool). if b then None else Some (f.table_at - 24))
-    (ap (λ (xs : List Entry). sum (map (λ (e : Entry). e.rows) xs) == f.rows) (sym es_are) ∙ sym same_is)

@@ -1,5 +1,6 @@
 -- What the checks of a file say of all of it: where it breaks, or which part it is.
-use Rattle.std.proofs.Common.{◌≡◌, ℕ, ◌-◌, ◌^◌, ◌<◌, ◌≤◌, ◌==◌, List, [], ◌∷◌, ◌++◌, length, map, sum, Some, None, ap, sym, ◌∙◌, subst, ⊎_elim, append_assoc, arith}
+use Rattle.std.proofs.Common.{◌≡◌, ℕ, ◌-◌, ◌^◌, ◌<◌, ◌≤◌, List, [], ◌∷◌, length, Some, None, ap, sym, ◌∙◌, subst, ⊎_elim, arith}
+use Rattle.std.specs.List.{sum_by}
 use Rattle.std.proofs.lemmas.Bool.{eqb-true}
 use Rattle.vm_block.specs.Header.{first_broken}
 use Rattle.vm_index.specs.Bytes.{postings_bytes}
@@ -7,7 +8,7 @@ use Rattle.vm_index.specs.Index.{postings_of}
 use Rattle.vm_index.specs.Reading.{IsTable}
 use Rattle.vm_index.proofs.ReadLaws.{IsBytes}
 use Rattle.vm_labels.specs.declared.pair.Pair.{Pair}
-use Rattle.vm_part.specs.Broken.{Breaks, IsReadFault, end_of, entries_at, entries_rules, footer_at, postings_in, rules, table_in}
+use Rattle.vm_part.specs.Broken.{Breaks, IsReadFault, end_of, entries_at, footer_at, postings_in, rules, table_in}
 use Rattle.vm_part.specs.Broken.Breaks.{wrong_field, in_table, in_postings, in_blocks}
 use Rattle.vm_part.specs.Reading.{AreSections, HasAllBlocks, IsBlocksFault, IsFaultOf, IsIndexFault, PlacesRise, entries_section_rules, front_rules}
 use Rattle.vm_part.specs.Said.{Says}
@@ -15,8 +16,8 @@ use Rattle.vm_part.specs.declared.entry.Entry.{Entry}
 use Rattle.vm_part.specs.declared.fault.ReadFault.{ReadFault}
 use Rattle.vm_part.specs.declared.fault.ReadFault.TheVariants.{Broken, Memory}
 use Rattle.vm_part.specs.declared.footer.Footer.{Footer}
-use Rattle.vm_part.proofs.EntryLaws.{AllKeep, all_keep, entries_many, places_rise}
-use Rattle.vm_part.proofs.RuleLaws.{broken_front, kept_front, kept_one, kept_parts}
+use Rattle.vm_part.proofs.EntryLaws.{AllKeep, all_add_up, all_keep, entries_many, places_rise}
+use Rattle.vm_part.proofs.RuleLaws.{broken_front, kept_front}
 use Rattle.vm_part.proofs.WholeLaws.{says_all}
 
 -- ---- rules
@@ -24,18 +25,12 @@ use Rattle.vm_part.proofs.WholeLaws.{says_all}
 -- where the front and the footer keep their rules, the entries decide
 sections_decide : (at : ℕ) (bytes : List ℕ) → first_broken (front_rules at bytes) ≡ None
     → first_broken (rules at bytes) ≡ first_broken (entries_section_rules (footer_at at bytes) bytes)
-sections_decide at bytes kept =
-    let f = footer_at at bytes in
-    let each = entries_rules f.entries_at bytes f.series f.entries_at None in
-    let rows = (f.table_at - 24, sum (map (λ (e : Entry). e.rows) (entries_at f.series f.entries_at bytes)) == f.rows) ∷ [] in
-    ap first_broken (append_assoc (front_rules at bytes) each rows) ∙ kept_front (front_rules at bytes) (each ++ rows) kept
+sections_decide at bytes kept = kept_front (front_rules at bytes) (entries_section_rules (footer_at at bytes) bytes) kept
 
 pub footer_fault : (len : ℕ) (bytes : List ℕ) (at : ℕ) → 56 ≤ len → first_broken (front_rules (len - 48) bytes) ≡ Some at → Breaks len bytes at
 footer_fault len bytes at long broken =
-    let f = footer_at (len - 48) bytes in
-    let each = entries_rules f.entries_at bytes f.series f.entries_at None in
-    let rows = (f.table_at - 24, sum (map (λ (e : Entry). e.rows) (entries_at f.series f.entries_at bytes)) == f.rows) ∷ [] in
-    wrong_field at long (broken_front (front_rules (len - 48) bytes ++ each) rows at (broken_front (front_rules (len - 48) bytes) each at broken))
+    let foot = len - 48 in
+    wrong_field at long (broken_front (front_rules foot bytes) (entries_section_rules (footer_at foot bytes) bytes) at broken)
 
 pub rules_kept : (at : ℕ) (bytes : List ℕ) (f : Footer) → first_broken (front_rules at bytes) ≡ None → f ≡ footer_at at bytes
     → first_broken (entries_section_rules f bytes) ≡ None → first_broken (rules at bytes) ≡ None
@@ -66,21 +61,18 @@ blocks_fault len bytes f es sets (Broken at) long kept f_is table postings es_ar
 -- ---- the entries
 
 entries_keep : (bytes : List ℕ) (f : Footer) (es : List Entry) → es ≡ entries_at f.series f.entries_at bytes
-    → first_broken (entries_section_rules f bytes) ≡ None
-    → AllKeep f.entries_at None es × (sum (map (λ e. e.rows) es) ≡ f.rows)
+    → first_broken (entries_section_rules f bytes) ≡ None → AllKeep f.entries_at None es
 entries_keep bytes f es es_are all =
-    let read = entries_at f.series f.entries_at bytes in
-    let each = entries_rules f.entries_at bytes f.series f.entries_at None in
-    let rows = (f.table_at - 24, sum (map (λ (e : Entry). e.rows) read) == f.rows) ∷ [] in
-    let both = kept_parts each rows all in
-    let one = kept_one (f.table_at - 24) (sum (map (λ (e : Entry). e.rows) read) == f.rows) [] both.1 in (
-      subst (AllKeep f.entries_at None) (sym es_are) (all_keep f.entries_at bytes f.series f.entries_at None both.0),
-      ap (λ xs. sum (map (λ (e : Entry). e.rows) xs)) es_are ∙ eqb-true (sum (map (λ (e : Entry). e.rows) read)) f.rows one.0,
-    )
+    subst (AllKeep f.entries_at None) (sym es_are) (all_keep f.entries_at bytes f.rows f.series f.entries_at None 0 all)
+
+rows_are : (bytes : List ℕ) (f : Footer) (es : List Entry) → 1 ≤ f.series → es ≡ entries_at f.series f.entries_at bytes
+    → first_broken (entries_section_rules f bytes) ≡ None → sum_by (λ e. e.rows) es ≡ f.rows
+rows_are bytes f es some es_are all =
+    ap (sum_by (λ (e : Entry). e.rows)) es_are ∙ all_add_up f.entries_at bytes f.rows f.series f.entries_at some all
 
 pub entries_rise : (bytes : List ℕ) (f : Footer) (es : List Entry) → es ≡ entries_at f.series f.entries_at bytes
     → first_broken (entries_section_rules f bytes) ≡ None → PlacesRise f.entries_at es
-entries_rise bytes f es es_are all = places_rise f.entries_at None es (entries_keep bytes f es es_are all).0
+entries_rise bytes f es es_are all = places_rise f.entries_at None es (entries_keep bytes f es es_are all)
 
 first_place : (end : ℕ) (es : List Entry) → 1 ≤ length es → AllKeep end None es → end_of end es ≡ 8
 first_place end [] some keep = absurd (omega arith)
@@ -97,7 +89,7 @@ file_says len bytes f es sets are within long f_is s es_are all table postings h
     let keep = entries_keep bytes f es es_are all in
     let many : length es ≡ f.series = ap length es_are ∙ entries_many f.series f.entries_at bytes in
     says_all (len - 48) bytes f es sets are (omega (arith, s.whole)) s f_is es_are many
-    (first_place f.entries_at es (omega (arith, many, s.some)) keep.0) keep.0 keep.1 table postings has (omega arith) few
+    (first_place f.entries_at es (omega (arith, many, s.some)) keep) keep (rows_are bytes f es s.some es_are all) table postings has (omega arith) few
 
 pub file_long : (len : ℕ) (bytes : List ℕ) (f : Footer) → length bytes ≤ len → 56 ≤ len → AreSections (len - 48) bytes f → length bytes ≡ len
 file_long len bytes f within long s = omega (arith, s.whole)

@@ -1,9 +1,8 @@
 -- The fields of a part keep their rules.
-use Rattle.std.proofs.Common.{◌≡◌, ℕ, zero, suc, ◌+◌, ◌-◌, ◌*◌, ◌%◌, ◌^◌, ◌≤◌, ◌<◌, Bool, true, ◌&&◌, ◌||◌, if◌then◌else◌, nat_le, nat_lt, ◌==◌, int_le, List, [], ◌∷◌, ◌++◌, length, take, map, flat_map, sum, Option, Some, None, refl, ap, ap₂, sym, ◌∙◌, subst, ⊎_elim, arith, append-nil, length-append}
+use Rattle.std.proofs.Common.{◌≡◌, ℕ, zero, suc, ◌+◌, ◌-◌, ◌*◌, ◌%◌, ◌^◌, ◌≤◌, ◌<◌, Bool, true, ◌&&◌, ◌||◌, if◌then◌else◌, nat_le, nat_lt, ◌==◌, not, int_le, List, [], ◌∷◌, ◌++◌, length, take, flat_map, Option, Some, None, refl, ap, ap₂, sym, ◌∙◌, subst, ⊎_elim, arith, append-nil, length-append}
 use Rattle.std.specs.Prelude.{bytes_eq}
 use Rattle.std.specs.List.{AllByRecursion}
 use Rattle.std.proofs.lemmas.Bool.{and_from, and_parts, cond-false, eq-eqb, eqb-true, le-leb, lt-ltb, ltb-true, ne_eqb, or_cases, or_left}
-use Rattle.std.proofs.lemmas.List.Sums.{sum-map}
 use Rattle.std.proofs.lemmas.Slice.Eq.{bytes_eq-Decides}
 use Rattle.vm_base.specs.Sorted.{IsUp, last_of}
 use Rattle.vm_base.specs.Stamped.{is_in_order}
@@ -16,27 +15,29 @@ use Rattle.vm_part.specs.Reading.{entries_section_rules, front_rules, has_mark}
 use Rattle.vm_part.specs.declared.entry.Entry.{Entry}
 use Rattle.vm_part.specs.declared.footer.Footer.{Footer}
 use Rattle.vm_part.proofs.BlockLaws.{block_long, ends, last_append, samples_many}
-use Rattle.vm_part.proofs.BuildLaws.{rows-entries}
 use Rattle.vm_part.proofs.EntryLaws.{entries_many}
 use Rattle.vm_part.proofs.FileLaws.{rules_kept}
 use Rattle.vm_part.proofs.LayoutLaws.{HasLayout, entries_long, footer_of, front_long}
-use Rattle.vm_part.proofs.RuleLaws.{kept_first, kept_front}
+use Rattle.vm_part.proofs.RuleLaws.{kept_front}
 use Rattle.vm_part.proofs.SectionLaws.{none_broken}
 
 -- ---- the rules of entries
 
 -- the rules of entries, as they stand in a list
-abbrev pub list_rules : (end at : ℕ) → Option Entry → List Entry → List (ℕ × Bool)
-list_rules end at before [] = []
-list_rules end at before (e ∷ es) = entry_rules end at before (length es == 0) e ++ list_rules end (at + 40) (Some e) es
+abbrev pub list_rules : (end rows at : ℕ) → Option Entry → (so_far : ℕ) → List Entry → List (ℕ × Bool)
+list_rules end rows at before so_far [] = []
+list_rules end rows at before so_far (e ∷ es) =
+    entry_rules end at before (length es == 0) (not (length es == 0) || so_far + e.rows == rows) e
+    ++ list_rules end rows (at + 40) (Some e) (so_far + e.rows) es
 
 -- are those of the bytes
-pub rules_listed : (end n at : ℕ) (bytes : List ℕ) (before : Option Entry)
-    → entries_rules end bytes n at before ≡ list_rules end at before (entries_at n at bytes)
-rules_listed end zero at bytes before = refl
-rules_listed end (suc n) at bytes before =
-    ap₂ (λ k rest. entry_rules end at before (k == 0) (entry_at at bytes) ++ rest) (sym (entries_many n (at + 40) bytes))
-    (rules_listed end n (at + 40) bytes (Some (entry_at at bytes)))
+pub rules_listed : (end rows n at : ℕ) (bytes : List ℕ) (before : Option Entry) (so_far : ℕ)
+    → entries_rules end bytes rows n at before so_far ≡ list_rules end rows at before so_far (entries_at n at bytes)
+rules_listed end rows zero at bytes before so_far = refl
+rules_listed end rows (suc n) at bytes before so_far =
+    let e = entry_at at bytes in
+    ap₂ (λ k rest. entry_rules end at before (k == 0) (not (k == 0) || so_far + e.rows == rows) e ++ rest) (sym (entries_many n (at + 40) bytes))
+    (rules_listed end rows n (at + 40) bytes (Some e) (so_far + e.rows))
 
 module _ (at : ℕ) (b0 b1 b2 b3 b4 : Bool) where
   five_kept : b0 ≡ true → b1 ≡ true → b2 ≡ true → b3 ≡ true → b4 ≡ true
@@ -129,21 +130,31 @@ last_ends end start s (t ∷ more) whole =
     ap (λ is_last. ends_there end is_last (entry_of start s))
     (ne_eqb (length (entries_from (start + length (blocks_bytes s.blocks)) (t ∷ more))) 0 (λ same. absurd (omega arith)))
 
-entry_keeps : (end at start : ℕ) (before : Option Entry) (is_last : Bool) (s : Stored) → IsStored s
+-- where no entry is after it, the rows of all add up
+rows_add_up : (rows so_far start : ℕ) (s : Stored) (more : List Stored) → so_far + length (flat_map samples_of (s ∷ more)) ≡ rows
+    → (not (length (entries_from start more) == 0) || so_far + length (samples_of s) == rows) ≡ true
+rows_add_up rows so_far start s [] whole =
+    eq-eqb (so_far + length (samples_of s)) rows (omega (arith, whole, length-append (samples_of s) []))
+rows_add_up rows so_far start s (t ∷ more) whole =
+    ap (λ is_last. not is_last || so_far + length (samples_of s) == rows)
+    (ne_eqb (length (entries_from start (t ∷ more))) 0 (λ same. absurd (omega arith)))
+
+entry_keeps : (end at start : ℕ) (before : Option Entry) (is_last adds_up : Bool) (s : Stored) → IsStored s
     → start + length (blocks_bytes s.blocks) ≤ end → may_start before start ≡ true → ends_there end is_last (entry_of start s) ≡ true
-    → first_broken (entry_rules end at before is_last (entry_of start s)) ≡ None
-entry_keeps end at start before is_last s is fits begins ends_so =
+    → adds_up ≡ true → first_broken (entry_rules end at before is_last adds_up (entry_of start s)) ≡ None
+entry_keeps end at start before is_last adds_up s is fits begins ends_so adds =
     let has = sizes s.blocks is.blocks in
     let room = has.room in
     let rise = times_rise (samples_of s) is.order in
     let late = has.last in
     let e = entry_of start s in
     five_kept at (may_start before e.start && ends_there end is_last e) (nat_le (e.start + 40 * e.blocks) end)
-    (nat_le e.blocks e.rows && nat_le e.rows (8192 * e.blocks)) (is_time e.first_time && none_without_blocks e e.first_time)
+    (nat_le e.blocks e.rows && nat_le e.rows (8192 * e.blocks) && adds_up) (is_time e.first_time && none_without_blocks e e.first_time)
     (is_last_time e.first_time e.last_time && none_without_blocks e e.last_time)
     (and_from (may_start before e.start) (ends_there end is_last e) begins ends_so)
     (le-leb (e.start + 40 * e.blocks) end (omega arith))
-    (and_from (nat_le e.blocks e.rows) (nat_le e.rows (8192 * e.blocks)) (le-leb e.blocks e.rows has.some) (le-leb e.rows (8192 * e.blocks) has.most))
+    (and_from (nat_le e.blocks e.rows && nat_le e.rows (8192 * e.blocks)) adds_up
+    (and_from (nat_le e.blocks e.rows) (nat_le e.rows (8192 * e.blocks)) (le-leb e.blocks e.rows has.some) (le-leb e.rows (8192 * e.blocks) has.most)) adds)
     (and_from (is_time e.first_time) (none_without_blocks e e.first_time) (lt-ltb e.first_time (2 ^ 48) (omega arith))
     (no_times s.blocks (λ ss. time_of (first_of ss)) refl))
     (and_from (is_last_time e.first_time e.last_time) (none_without_blocks e e.last_time)
@@ -152,22 +163,29 @@ entry_keeps end at start before is_last s is fits begins ends_so =
 
 -- ---- all entries
 
-entries_keep : (end at start : ℕ) (before : Option Entry) (all : List Stored) → start + length (flat_map series_bytes all) ≡ end
-    → may_start before start ≡ true → AllByRecursion IsStored all → first_broken (list_rules end at before (entries_from start all)) ≡ None
-entries_keep end at start before [] whole begins each = refl
-entries_keep end at start before (s ∷ more) whole begins each =
+entries_keep : (end rows at start : ℕ) (before : Option Entry) (so_far : ℕ) (all : List Stored) → start + length (flat_map series_bytes all) ≡ end
+    → so_far + length (flat_map samples_of all) ≡ rows → may_start before start ≡ true → AllByRecursion IsStored all
+    → first_broken (list_rules end rows at before so_far (entries_from start all)) ≡ None
+entries_keep end rows at start before so_far [] whole counted begins each = refl
+entries_keep end rows at start before so_far (s ∷ more) whole counted begins each =
     let next = start + length (blocks_bytes s.blocks) in
+    let is_last = length (entries_from next more) == 0 in
+    let adds_up = not is_last || so_far + length (samples_of s) == rows in
+    let later = so_far + length (samples_of s) in
     let long = length-append (blocks_bytes s.blocks) (flat_map series_bytes more) in
-    kept_front (entry_rules end at before (length (entries_from next more) == 0) (entry_of start s))
-    (list_rules end (at + 40) (Some (entry_of start s)) (entries_from next more))
-    (entry_keeps end at start before (length (entries_from next more) == 0) s each.0 (omega arith) begins (last_ends end start s more whole))
-    ∙ entries_keep end (at + 40) next (Some (entry_of start s)) more (omega arith) (next_starts start s.blocks (sizes s.blocks each.0.blocks)) each.1
+    let many = length-append (samples_of s) (flat_map samples_of more) in
+    kept_front (entry_rules end at before is_last adds_up (entry_of start s))
+    (list_rules end rows (at + 40) (Some (entry_of start s)) later (entries_from next more))
+    (entry_keeps end at start before is_last adds_up s each.0 (omega arith) begins (last_ends end start s more whole)
+    (rows_add_up rows so_far next s more counted))
+    ∙ entries_keep end rows (at + 40) next (Some (entry_of start s)) later more (omega arith) (omega arith)
+    (next_starts start s.blocks (sizes s.blocks each.0.blocks)) each.1
 
 -- each entry of a part keeps its rules
 pub entries_keep_rules : (all : List Stored) (at : ℕ) → AllByRecursion IsStored all
-    → first_broken (list_rules (length (front all)) at None (entries_of all)) ≡ None
+    → first_broken (list_rules (length (front all)) (length (flat_map samples_of all)) at None 0 (entries_of all)) ≡ None
 entries_keep_rules all at each =
-    entries_keep (length (front all)) at 8 None all (sym (front_long all)) refl each
+    entries_keep (length (front all)) (length (flat_map samples_of all)) at 8 None 0 all (sym (front_long all)) (omega arith) refl each
 
 -- ---- the footer
 
@@ -235,12 +253,9 @@ entries_part : (bytes : List ℕ) (all : List Stored) → AllByRecursion IsStore
     → entries_at (length all) (length (front all)) bytes ≡ entries_of all → first_broken (entries_section_rules (footer_of all) bytes) ≡ None
 entries_part bytes all each is =
     let at = length (front all) in
-    let test = (sum (map (λ (e : Entry). e.rows) (entries_at (length all) at bytes)) == length (flat_map samples_of all)) in
-    kept_front (entries_rules at bytes (length all) at None) ((at + length (entries all) - 24, test) ∷ [])
-    (ap first_broken (rules_listed at (length all) at bytes None) ∙ ap (λ es. first_broken (list_rules at at None es)) is ∙ entries_keep_rules all at each)
-    ∙ kept_first (at + length (entries all) - 24) test []
-    (eq-eqb (sum (map (λ (e : Entry). e.rows) (entries_at (length all) at bytes))) (length (flat_map samples_of all))
-    (ap (λ (es : List Entry). sum (map (λ (e : Entry). e.rows) es)) is ∙ sum-map (λ (e : Entry). e.rows) (entries_of all) ∙ rows-entries 8 all))
+    let rows = length (flat_map samples_of all) in
+    ap first_broken (rules_listed at rows (length all) at bytes None 0) ∙ ap (λ es. first_broken (list_rules at rows at None 0 es)) is
+    ∙ entries_keep_rules all at each
 
 -- all fields of a part keep their rules
 pub rules_are_kept : (bytes : List ℕ) (all : List Stored) → AreStored all → HasLayout bytes all → first_broken (rules (length bytes - 48) bytes) ≡ None

@@ -1,10 +1,10 @@
 -- A file of which each section was read is the part of its series.
-use Rattle.std.proofs.Common.{◌≡◌, ℕ, zero, suc, ◌+◌, ◌-◌, ◌*◌, ◌^◌, ◌<◌, ◌≤◌, List, [], ◌∷◌, ◌++◌, length, take, drop, map, flat_map, sum, Option, Some, None, refl, ap, ap₂, sym, ◌∙◌, subst, inl, inr, append_assoc, arith, length-append, w64}
+use Rattle.std.proofs.Common.{◌≡◌, ℕ, zero, suc, ◌+◌, ◌-◌, ◌*◌, ◌^◌, ◌<◌, ◌≤◌, List, [], ◌∷◌, ◌++◌, length, take, drop, flat_map, Option, Some, None, refl, ap, ap₂, sym, ◌∙◌, subst, inl, inr, append_assoc, arith, length-append, w64}
 use Rattle.std.specs.Int.{to_be_bytes}
 use Rattle.std.specs.List.{AllByRecursion, sum_by}
 use Rattle.std.proofs.lemmas.Bool.{cases_lt}
 use Rattle.std.proofs.lemmas.List.{drop-drop, get_or-drop, get_or-take, get_or_past, length-drop, length-map, length-take-le, take-append-drop, take_all}
-use Rattle.std.proofs.lemmas.List.Sums.{sum-map, sum_by-cons}
+use Rattle.std.proofs.lemmas.List.Sums.{sum_by-cons}
 use Rattle.std.proofs.lemmas.Nat.{be_bytes_8}
 use Rattle.vm_block.specs.Header.{field}
 use Rattle.vm_index.specs.Bytes.{postings_bytes, table_bytes}
@@ -234,7 +234,7 @@ is_image at bytes f all are long s f_is says =
 
 pub says_all : (at : ℕ) (bytes : List ℕ) (f : Footer) (es : List Entry) (sets : List (List Pair)) → IsBytes bytes → length bytes ≡ at + 48
     → AreSections at bytes f → f ≡ footer_at at bytes → es ≡ entries_at f.series f.entries_at bytes → length es ≡ f.series → end_of f.entries_at es ≡ 8
-    → AllKeep f.entries_at None es → sum (map (λ e. e.rows) es) ≡ f.rows
+    → AllKeep f.entries_at None es → sum_by (λ e. e.rows) es ≡ f.rows
     → IsTable f.series (table_in f bytes) sets → postings_in at f bytes ≡ postings_bytes (postings_of sets)
     → HasAllBlocks bytes f.entries_at es → length bytes < 2 ^ 64 → f.rows < 2 ^ 64
     → Says (record { bytes = bytes; sets = sets; entries = es; rows = f.rows }) (λ all. Unit {0})
@@ -242,7 +242,7 @@ says_all at bytes f es sets are long s f_is es_are many begins keep rows is_tabl
     let all = stored sets has.blocks in
     let series = all_series bytes f.entries_at 8 None es sets has.blocks (sym begins) (is_table.many ∙ sym many) keep has.stand in
     let count : length all ≡ f.series = sym (length-map all (λ (x : Stored). x.labels)) ∙ ap length series.named ∙ is_table.many in
-    let counted : length (flat_map samples_of all) ≡ f.rows = sym series.rows ∙ sym (sum-map (λ (e : Entry). e.rows) es) ∙ rows in
+    let counted : length (flat_map samples_of all) ≡ f.rows = sym series.rows ∙ rows in
     let blocks_len : f.entries_at - 8 ≡ length (flat_map series_bytes all) = omega (arith, series.ends) in
     let entries_len : f.table_at - f.entries_at ≡ 40 * f.series = omega (arith, s.entries) in
     record {

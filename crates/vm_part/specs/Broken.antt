@@ -1,6 +1,6 @@
 -- Where bytes that are no part break: the first wrong field, in the order in which a part is read. That
 -- is its front, the footer, the entries, the label table, the postings and the blocks.
-use Rattle.std.specs.Prelude.{◌≡◌, ℕ, zero, suc, ◌+◌, ◌-◌, ◌*◌, ◌%◌, ◌<◌, ◌≤◌, ◌==◌, ◌&&◌, ◌||◌, nat_le, nat_lt, not, sum, Bool, true, false, List, [], ◌∷◌, ◌++◌, length, map, take, bytes_eq, Option, Some, None, if◌then◌else◌, ⊤}
+use Rattle.std.specs.Prelude.{◌≡◌, ℕ, zero, suc, ◌+◌, ◌-◌, ◌*◌, ◌%◌, ◌<◌, ◌≤◌, ◌==◌, ◌&&◌, ◌||◌, nat_le, nat_lt, not, Bool, true, false, List, [], ◌∷◌, ◌++◌, length, take, bytes_eq, Option, Some, None, if◌then◌else◌, ⊤}
 use Rattle.std.specs.Int.{w64, from_be_bytes}
 use Rattle.std.specs.Option.{option_map_or}
 use Rattle.vm_base.specs.Sample.{is_sample}
@@ -89,34 +89,35 @@ ends_there end is_last e = not is_last || nat_lt 0 e.blocks || e.start == end
 abbrev pub none_without_blocks : Entry → ℕ → Bool
 none_without_blocks e time = nat_lt 0 e.blocks || time == 0
 
--- the place of each field of an entry, and whether it keeps its rule; `end` is where the blocks end
-abbrev pub entry_rules : (end at : ℕ) → Option Entry → (is_last : Bool) → Entry → List (ℕ × Bool)
-entry_rules end at before is_last e =
+-- The place of each field of an entry, and whether it keeps its rule. `end` is where the blocks end, and
+-- `adds_up` is false where the entry is the last one and the rows of all are wrong.
+abbrev pub entry_rules : (end at : ℕ) → Option Entry → (is_last adds_up : Bool) → Entry → List (ℕ × Bool)
+entry_rules end at before is_last adds_up e =
     (at, may_start before e.start && ends_there end is_last e)
     ∷ (at + 8, nat_le (e.start + 40 * e.blocks) end)
-    ∷ (at + 16, nat_le e.blocks e.rows && nat_le e.rows (8192 * e.blocks))
+    ∷ (at + 16, nat_le e.blocks e.rows && nat_le e.rows (8192 * e.blocks) && adds_up)
     ∷ (at + 24, is_time e.first_time && none_without_blocks e e.first_time)
     ∷ (at + 32, is_last_time e.first_time e.last_time && none_without_blocks e e.last_time)
     ∷ []
 
--- of so many entries from a place on
-abbrev pub entries_rules : (end : ℕ) → List ℕ → (n at : ℕ) → Option Entry → List (ℕ × Bool)
-entries_rules end bytes zero at before = []
-entries_rules end bytes (suc n) at before =
+-- Of so many entries from a place on, where `so_far` rows are those of the entries before them. The rows of all
+-- entries are as many as the footer says, which is `rows`, or else those of the last one are wrong.
+abbrev pub entries_rules : (end : ℕ) → List ℕ → (rows : ℕ) → (n at : ℕ) → Option Entry → (so_far : ℕ) → List (ℕ × Bool)
+entries_rules end bytes rows zero at before so_far = []
+entries_rules end bytes rows (suc n) at before so_far =
     let e = entry_at at bytes in
-    entry_rules end at before (n == 0) e ++ entries_rules end bytes n (at + 40) (Some e)
+    entry_rules end at before (n == 0) (not (n == 0) || so_far + e.rows == rows) e
+    ++ entries_rules end bytes rows n (at + 40) (Some e) (so_far + e.rows)
 
 -- ---- all fields but those of the index and of blocks
 
--- The rows of all entries are as many as the footer says, or else those of the last entry are wrong.
+-- the place of each field, and whether it keeps its rule, where the footer stands at this place
 abbrev pub rules : ℕ → List ℕ → List (ℕ × Bool)
 rules at bytes =
     let f = footer_at at bytes in
     (0, is_whole 0 bytes && bytes_eq (take 8 bytes) front_mark)
     ∷ footer_rules at bytes
-    ++ entries_rules f.entries_at bytes f.series f.entries_at None
-    ++ (f.table_at - 24, sum (map (λ e. e.rows) (entries_at f.series f.entries_at bytes)) == f.rows)
-    ∷ []
+    ++ entries_rules f.entries_at bytes f.rows f.series f.entries_at None 0
 
 -- ---- blocks
 

@@ -1,10 +1,10 @@
 -- What a reader of a part finds, section by section. Only private functions cite it.
-use Rattle.std.specs.Prelude.{◌≡◌, ◌⊎◌, ℕ, suc, ◌+◌, ◌-◌, ◌*◌, ◌%◌, ◌<◌, ◌≤◌, ◌==◌, ◌&&◌, ◌||◌, nat_le, nat_lt, not, sum, Bool, true, List, [], ◌∷◌, ◌++◌, length, map, take, bytes_eq, Some, None, if◌then◌else◌, ⊤}
+use Rattle.std.specs.Prelude.{◌≡◌, ◌⊎◌, ℕ, suc, ◌+◌, ◌-◌, ◌*◌, ◌%◌, ◌<◌, ◌≤◌, ◌==◌, ◌&&◌, ◌||◌, nat_le, nat_lt, not, Bool, true, List, [], ◌∷◌, ◌++◌, length, take, bytes_eq, Some, None, if◌then◌else◌, ⊤}
 use Rattle.vm_base.specs.Sorted.{last_of}
 use Rattle.vm_block.specs.Block.{BreaksAt}
 use Rattle.vm_block.specs.Header.{IsHeader, field, field_rules, first_broken, header_bytes}
 use Rattle.vm_block.specs.declared.header.BlockHeader.{BlockHeader}
-use Rattle.vm_part.specs.Broken.{BreaksBehind, SeriesBreaks, SeriesStands, SomeBreaks, end_of, entries_at, entries_rules, first_sample, footer_rules, is_whole, may_follow, number_at, postings_in, table_in}
+use Rattle.vm_part.specs.Broken.{BreaksBehind, SeriesBreaks, SeriesStands, SomeBreaks, end_of, entries_rules, first_sample, footer_rules, is_whole, may_follow, number_at, postings_in, table_in}
 use Rattle.vm_index.specs.Reading.{IsRefused}
 use Rattle.vm_index.specs.declared.fault.IndexFault.TheVariants.{BrokenTable, BrokenPostings}
 use Rattle.vm_part.specs.Part.{Block, SaysSamples, block_bytes, end_mark, front_mark, samples_in}
@@ -54,12 +54,9 @@ pub record AreSections (at : ℕ) (bytes : List ℕ) (f : Footer) : Type 0 where
 
 -- ---- the entries
 
--- the rules of all entries, and of their rows
+-- the rules of all entries
 abbrev pub entries_section_rules : Footer → List ℕ → List (ℕ × Bool)
-entries_section_rules f bytes =
-    entries_rules f.entries_at bytes f.series f.entries_at None
-    ++ (f.table_at - 24, sum (map (λ e. e.rows) (entries_at f.series f.entries_at bytes)) == f.rows)
-    ∷ []
+entries_section_rules f bytes = entries_rules f.entries_at bytes f.rows f.series f.entries_at None 0
 
 -- why fields are refused: nothing is said of want of memory
 abbrev pub IsFaultOf : List (ℕ × Bool) → ReadFault → Type 0

@@ -1,7 +1,7 @@
 //! The entries of a part file.
-ghost use Rattle.std.specs.Prelude.{◌≡◌, ◌==◌, ◌+◌, ◌*◌, ◌^◌, ◌<◌, ◌≤◌, ◌&&◌, nat_le, sum, map, length, None, Some, IfOk, IfErr, OnOk};
+ghost use Rattle.std.specs.Prelude.{◌≡◌, ◌==◌, ◌+◌, ◌*◌, ◌^◌, ◌<◌, ◌≤◌, ◌&&◌, ◌||◌, nat_le, not, length, None, Some, IfOk, IfErr, OnOk};
 ghost use Rattle.vm_block.specs.Header.{first_broken, is_last_time, is_time};
-ghost use Rattle.vm_part.specs.Broken.{ends_there, entries_at, entries_rules, entry_at, entry_rules, may_start, none_without_blocks};
+ghost use Rattle.vm_part.specs.Broken.{ends_there, entries_at, entry_at, entry_rules, may_start, none_without_blocks};
 ghost use Rattle.vm_part.specs.Reading.{IsFaultOf, entries_section_rules};
 
 use crate::fields::{check, number_at};
@@ -22,37 +22,24 @@ pub(crate) fn read_entries(
 ) -> Result<List<Entry>, ReadFault>
     requires place { footer.now.entries_at + 40 * footer.now.series ≡ footer.now.table_at }
     requires within { footer.now.table_at ≤ length bytes.now }
-    requires some { 1 ≤ footer.now.series }
     ensures entries { IfOk result (λ entries. entries ≡ entries_at footer.now.series footer.now.entries_at bytes.now) }
     ensures kept { OnOk result (first_broken (entries_section_rules footer.now bytes.now) ≡ None) }
     ensures broken { IfErr result (λ fault. IsFaultOf (entries_section_rules footer.now bytes.now) fault) }
 {
-    let entries = read_each(alloc, bytes, footer)?;
-    check(
-        have_rows(entries.as_slice(), footer.rows),
-        footer.table_at - 24,
-    )?;
-    Ok(entries)
-}
-
-/// The entries, each of which keeps its rules.
-fn read_each(alloc: Global, bytes: &[u8], footer: &Footer) -> Result<List<Entry>, ReadFault>
-    requires place { footer.now.entries_at + 40 * footer.now.series ≡ footer.now.table_at }
-    requires within { footer.now.table_at ≤ length bytes.now }
-    ensures entries { IfOk result (λ entries. entries ≡ entries_at footer.now.series footer.now.entries_at bytes.now) }
-    ensures kept { OnOk result (first_broken (entries_rules footer.now.entries_at bytes.now footer.now.series footer.now.entries_at None) ≡ None) }
-    ensures broken { IfErr result (λ fault. IsFaultOf (entries_rules footer.now.entries_at bytes.now footer.now.series footer.now.entries_at None) fault) }
-{
     let mut entries = List::new(alloc);
     let mut before = None;
+    let mut rows: u128 = 0;
     'each: for n in 0..footer.series {
         let at = footer.entries_at + ENTRY_LEN * n;
         let entry = entry_at(bytes, at);
+        rows += u128::from(entry.rows);
+        let is_last = n + 1 == footer.series;
         check_entry(
             footer.entries_at,
             at,
             before,
-            n + 1 == footer.series,
+            is_last,
+            adds_up(is_last, rows, footer.rows),
             &entry,
         )?;
         entries.push(entry)?;
@@ -75,24 +62,33 @@ fn entry_at(bytes: &[u8], at: u64) -> Entry
     }
 }
 
-/// Sees that an entry at a place keeps its rules. The blocks of all series end at `end`.
+/// Whether the rows of all entries up to the last one are as many as the footer says.
+fn adds_up(is_last: bool, so_far: u128, rows: u64) -> bool
+    ensures { result ≡ (not is_last || so_far == rows) }
+{
+    !is_last || so_far == u128::from(rows)
+}
+
+/// Sees that an entry at a place keeps its rules. The blocks of all series end at `end`, and `adds_up` is
+/// false where the rows of all entries are wrong, which is found at the last one.
 fn check_entry(
     end: u64,
     at: u64,
     before: Option<Entry>,
     is_last: bool,
+    adds_up: bool,
     entry: &Entry,
 ) -> Result<(), Broken>
     requires { at + 40 < 2 ^ 64 }
-    ensures kept { OnOk result (first_broken (entry_rules end at before is_last entry.now) ≡ None) }
-    ensures broken { IfErr result (λ e. first_broken (entry_rules end at before is_last entry.now) ≡ Some e.at) }
+    ensures kept { OnOk result (first_broken (entry_rules end at before is_last adds_up entry.now) ≡ None) }
+    ensures broken { IfErr result (λ e. first_broken (entry_rules end at before is_last adds_up entry.now) ≡ Some e.at) }
 {
     check(
         may_start(before, entry.start) && ends_there(end, is_last, entry),
         at,
     )?;
     check(have_room(entry.start, entry.blocks, end), at + 8)?;
-    check(may_have_rows(entry.blocks, entry.rows), at + 16)?;
+    check(may_have_rows(entry.blocks, entry.rows) && adds_up, at + 16)?;
     check(may_begin(entry), at + 24)?;
     check(may_end(entry), at + 32)?;
     Ok(())
@@ -149,18 +145,4 @@ fn may_end(entry: &Entry) -> bool
     entry.last_time <= MAX_TIME
         && entry.first_time <= entry.last_time
         && (entry.blocks > 0 || entry.last_time == 0)
-}
-
-/// Whether the entries have so many samples in all.
-fn have_rows(entries: &[Entry], rows: u64) -> bool
-    ensures { result ≡ (sum (map (λ e. e.rows) entries.now) == rows) }
-{
-    let mut left = rows;
-    for entry in entries {
-        if entry.rows > left {
-            return false;
-        }
-        left -= entry.rows;
-    }
-    left == 0
 }

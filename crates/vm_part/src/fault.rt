@@ -33,6 +33,11 @@ impl From<Broken> for ReadFault {
     }
 }
 
+/// A part has more than 2^61 bytes, which no file may have.
+#[derive(Clone, Copy, Debug, PartialEq, Eq, Error)]
+#[error("a part of more than 2^61 bytes")]
+pub struct PartTooLong;
+
 /// Why a file gives no part.
 #[derive(Clone, Copy, Debug, PartialEq, Eq, Error)]
 pub enum PartFault {

@@ -32,7 +32,7 @@ mod series;
 mod writer;
 
 pub use entry::Entry;
-pub use fault::{PartFault, ReadFault};
+pub use fault::{PartFault, PartTooLong, ReadFault};
 pub use laws::{a_part_breaks_nowhere, a_part_says_one_list, bytes_break_at_one_place};
 pub use limits::are_within_limits;
 pub use opening::open_part;

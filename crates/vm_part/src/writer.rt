@@ -1,12 +1,11 @@
 //! A part on its way into a file.
 
-ghost use Rattle.std.specs.Prelude.{◌≡◌, ◌≢◌, ℕ, ◌+◌, ◌^◌, ◌≤◌, length, IfOk, OnErr, IsTrue};
+ghost use Rattle.std.specs.Prelude.{◌≡◌, ◌≢◌, ℕ, ◌+◌, ◌^◌, ◌<◌, ◌≤◌, length, IfOk, OnOk, OnErr, IsTrue};
 ghost use Rattle.vm_outside.specs.Disk.{Follows, Leaves, Torn};
 ghost use Rattle.vm_outside.specs.Outside.{Rose};
 ghost use Rattle.vm_part.specs.Files.{HasWritten, IsDurable, IsStep, next_len};
 
-use crate::{MemPart, PartReader};
-use std::alloc::AllocError;
+use crate::{MemPart, PartReader, PartTooLong};
 use std::cmp::min;
 use std::marker::Model;
 use std::rc::Rc;
@@ -52,13 +51,15 @@ impl Model for PartWriter {
 }
 
 impl PartWriter {
-    /// Begins to write a part into a file, of which nothing is written yet. A part of more than 2^61 bytes is
-    /// answered as want of memory.
-    pub fn begin_image(file: u64, part: Rc<MemPart>) -> Result<PartWriter, AllocError>
-        ensures { IfOk result (λ begun. begun ≡ record { file = file; part = part.value; done = 0 }) }
+    /// Begins to write a part into a file, of which nothing is written yet. It takes no memory. A part of more
+    /// than 2^61 bytes is refused.
+    pub fn begin_image(file: u64, part: Rc<MemPart>) -> Result<PartWriter, PartTooLong>
+        ensures begun { IfOk result (λ begun. begun ≡ record { file = file; part = part.value; done = 0 }) }
+        ensures fits { OnOk result (length part.value.bytes ≤ 2 ^ 61) }
+        ensures too_long { OnErr result (2 ^ 61 < length part.value.bytes) }
     {
         if part.image().len() > MAX_FILE {
-            return Err(AllocError);
+            return Err(PartTooLong);
         }
         Ok(PartWriter {
             file,

@@ -9,10 +9,11 @@ use Rattle.vm_machine.specs.declared.question.Question.{Question}
 use Rattle.vm_machine.specs.declared.question.Valued.{Valued}
 use Rattle.vm_machine.specs.declared.refusal.Refusal.{Refusal}
 use Rattle.vm_machine.specs.declared.refusal.Refusal.TheVariants.{PendingFull, BadRange, NotBuilt, ViewsFull, UnknownRun, RunTaken, Memory}
-use Rattle.vm_top.specs.Playing.{BodyOf, Gathers, IsAsked, IsReply}
+use Rattle.vm_top.specs.inner.Playing.{BodyOf, Gathers, IsAsked, Prints}
 use Rattle.vm_top.specs.Printed.{accepted_line, refused_line}
 use Rattle.vm_top.specs.Replay.{Answers, Accepts, Refuses, Imports, batches, all_accepted, one_refused}
 use Rattle.vm_top.specs.Rows.{format_rows, or_none}
+use Rattle.vm_top.specs.declared.response.Response.TheVariants as response
 
 -- the number is taken
 pub taken : (state : State) (number : ℕ) (asked : Result Question Refusal) → is_some (run_of number state.runs) ≡ true
@@ -26,7 +27,7 @@ taken state number asked some = go (run_of number state.runs) some
 -- the question was refused
 pub refused_question : (state : State) (number : ℕ) (asked : Result Question Refusal) (why : Refusal) → run_of number state.runs ≡ None
     → IsAsked asked (Err why) → Steps state (begin number asked) state (Err why)
-refused_question state number asked Memory free is = refl
+refused_question state number asked Memory free is = (free, refl)
 refused_question state number asked PendingFull free is = rw free (rw (sym is) refl)
 refused_question state number asked BadRange free is = rw free (rw (sym is) refl)
 refused_question state number asked NotBuilt free is = rw free (rw (sym is) refl)
@@ -36,15 +37,16 @@ refused_question state number asked (RunTaken run) free is = rw free (rw (sym is
 
 -- the reply to a run that ended, or that there was no memory for it
 pub ended : (before now : State) (number time : ℕ) (list : List Valued) (text : List ℕ)
-    → Steps before (end number) now (Ok (values time list)) → IsReply time list text
+    → Steps before (end number) now (Ok (values time list)) → Prints (response.Values time list) text
     → Answers number (end number) before now text
 ended before now number time list text steps (inl is) = record { answer = Ok (values time list); steps = steps; text_is = is }
 ended before now number time list text steps (inr is) =
     record { answer = Err Memory; steps = go (run_of number before.runs) steps; text_is = is }
   where
-    go : (there : Option _) → (now, Ok (values time list)) ≡ end_step there before number → now ≡ without before number
+    go : (there : Option _) → (now, Ok (values time list)) ≡ end_step there before number
+        → (is_some there ≡ true) × (now ≡ without before number)
     go None is = let no : true ≡ false = ap (λ pair. is_ok pair.1) is in absurd cc
-    go (Some run) is = ap (λ pair. pair.0) is
+    go (Some run) is = (refl, ap (λ pair. pair.0) is)
 
 -- what holds of what is given gives another fact
 pub if_ok_more : {A E : Type 0} (result : Result A E) (P Q : A → Type 0) → ((a : A) → P a → Q a) → IfOk result P → IfOk result Q

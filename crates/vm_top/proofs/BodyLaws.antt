@@ -1,5 +1,5 @@
 -- The lines of a body.
-use Rattle.std.proofs.Common.{◌≡◌, ℕ, ◌+◌, ◌<◌, List, [], ◌∷◌, ◌++◌, length, append_assoc, map, codes, true, false, cond, refl, sym, ap, ◌∙◌}
+use Rattle.std.proofs.Common.{◌≡◌, ℕ, ◌+◌, ◌<◌, List, [], ◌∷◌, ◌++◌, length, append_assoc, map, codes, Option, Some, true, false, cond, refl, sym, ap, ◌∙◌}
 use Rattle.std.proofs.lemmas.List.{map-append}
 use Rattle.std.proofs.lemmas.List.Sums.{sum_by_push}
 use Rattle.std.proofs.lemmas.Slice.Eq.{bytes_eq-Decides}
@@ -11,8 +11,13 @@ use Rattle.vm_lines.specs.Lines.{is_too_long}
 use Rattle.vm_machine.specs.Batches.{batches_of, enough, with_more}
 use Rattle.vm_machine.proofs.BatchLaws.{no_row}
 use Rattle.vm_script.specs.Command.{is_body_end}
-use Rattle.vm_top.specs.Playing.{Adds, BodyOf, Gathers}
+use Rattle.vm_script.specs.declared.command.Command.TheVariants.{Import}
+use Rattle.vm_script.specs.declared.command.Format.{Format}
+use Rattle.vm_top.specs.inner.Playing.{Adds, BodyOf, BreaksOff, Gathers, IsCutShort}
+use Rattle.vm_top.specs.inner.Reading.{Place}
 use Rattle.vm_top.specs.Rows.{format_rows, or_none}
+use Rattle.vm_top.specs.declared.fault.Fault.{Fault}
+use Rattle.vm_top.specs.declared.fault.Fault.TheVariants.{Usage, InputTooLong, BadLine, Input, Output, Memory}
 
 -- one more at the end of a list of which each element has a property
 pub all_more : {X : Type 0} (P : X → Type 0) (xs : List X) (x : X) → AllByRecursion P xs → P x → AllByRecursion P (xs ++ x ∷ [])
@@ -55,3 +60,13 @@ no_rows old few more = no_row old.parted more few
 -- the line that ends a body is a full stop
 pub is_end : (line : List ℕ) → is_body_end line ≡ true → line ≡ codes "."
 is_end line is = (bytes_eq-Decides line (codes ".")).0 is
+
+-- where the input stopped within the body of an import
+pub breaks_of : (fault : Fault) (format : Format) (time : ℕ) (at : Place) (left_at left_after : Option (List ℕ))
+    → IsCutShort (Some (Import format time)) at left_at left_after → BreaksOff fault (Some (Import format time)) at left_at left_after
+breaks_of Input format time at left_at left_after cut = cut
+breaks_of InputTooLong format time at left_at left_after cut = cut
+breaks_of Usage format time at left_at left_after cut = tt
+breaks_of (BadLine number) format time at left_at left_after cut = tt
+breaks_of Output format time at left_at left_after cut = tt
+breaks_of Memory format time at left_at left_after cut = tt

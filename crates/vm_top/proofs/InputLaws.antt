@@ -9,7 +9,7 @@ use Rattle.vm_promtext.specs.declared.line.Line.TheVariants.{Skipped}
 use Rattle.vm_lines.specs.Reading.{Reading, Moves, to_go, IsFirstLine, IsSpent}
 use Rattle.vm_outside.specs.Outside.{Told}
 use Rattle.vm_outside.proofs.Streams.{gives_more}
-use Rattle.vm_top.specs.Reading.{Place, Takes, unread, first_place}
+use Rattle.vm_top.specs.inner.Reading.{Place, Takes, unread, first_place}
 
 -- of nothing read, all is unread
 pub unread_first : (left : Option (List ℕ)) → unread first_place left ≡ left

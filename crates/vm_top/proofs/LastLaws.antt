@@ -12,8 +12,8 @@ use Rattle.vm_machine.specs.declared.question.Question.{Question}
 use Rattle.vm_machine.specs.declared.question.Valued.{Valued}
 use Rattle.vm_machine.proofs.FoundLaws.{found_values}
 use Rattle.vm_outside.specs.Outside.{Told}
-use Rattle.vm_top.specs.Answer.{question, last_answer}
-use Rattle.vm_top.specs.Reading.{Place, Takes, first_place, unread}
+use Rattle.vm_top.specs.Last.{question, last_answer}
+use Rattle.vm_top.specs.inner.Reading.{Place, Takes, first_place, unread}
 use Rattle.vm_top.specs.Reply.{reply}
 use Rattle.vm_top.specs.Rows.{rows, line_rows}
 use Rattle.vm_top.proofs.InputLaws.{unread_first, through_line, takes_none}

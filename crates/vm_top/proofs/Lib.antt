@@ -4,7 +4,9 @@ mod DoneLaws
 mod InputLaws
 mod LastLaws
 mod NoteLaws
+mod OneScript
 mod PlayLaws
 mod ReplyLaws
 mod ScriptLaws
+mod TakenLaws
 mod WordLaws

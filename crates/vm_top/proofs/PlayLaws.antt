@@ -13,16 +13,17 @@ use Rattle.vm_machine.specs.Machine.{State}
 use Rattle.vm_outside.specs.Outside.{Told, Takes}
 use Rattle.vm_outside.proofs.Streams.{takes_more, takes_nothing}
 use Rattle.vm_script.specs.Command.{command_of}
-use Rattle.vm_top.specs.Playing.{Through, Passes, PlaysLine, HasPlayed, IsBrokenBy, CanPlay, Ends}
-use Rattle.vm_top.specs.Reading.{Place, HasLine, unread, first_place}
-use Rattle.vm_top.specs.Replay.{Plays, no_command, next_command, blank, IsPlayedInPart}
-use Rattle.vm_top.specs.Script.{Entry, IsEntry, IsCutOff, Breaks, entry_lines, lines_behind, script_lines}
-use Rattle.vm_top.specs.Statuses.{IsShort, IsTooLong, IsAnsweredInPart, Wrote}
-use Rattle.vm_top.specs.Words.{replay}
+use Rattle.vm_top.specs.inner.Playing.{Through, Passes, PlaysLine, HasPlayed, IsBrokenBy, IsCutShort, BreaksOff, CanPlay, Ends}
+use Rattle.vm_top.specs.inner.Reading.{Place, HasLine, GoesOver, StopsAt, unread, first_place}
+use Rattle.vm_top.specs.Promise.{IsShort, IsTooLong}
+use Rattle.vm_top.specs.Replay.{Plays, no_command, next_command, blank, Holds, IsOpen, IsPlayedSoFar, IsPlayedBefore, replay_promise}
+use Rattle.vm_top.specs.Script.{Entry, IsEntry, IsCutOff, Breaks, entry_lines, lines_after, script_lines}
+use Rattle.vm_top.specs.Statuses.{IsAnsweredInPart, Wrote}
 use Rattle.vm_top.specs.declared.fault.Fault.{Fault}
 use Rattle.vm_top.specs.declared.fault.Fault.TheVariants.{Usage, InputTooLong, BadLine, Input, Output, Memory}
 use Rattle.vm_top.proofs.BodyLaws.{all_more}
 use Rattle.vm_top.proofs.InputLaws.{unread_first}
+use Rattle.vm_top.proofs.TakenLaws.{over_more, holds_at, part_at}
 
 -- a line that is too long is no command
 pub command_of_long : (line : List ℕ) → is_too_long line ≡ true → None ≡ command_of line
@@ -89,7 +90,7 @@ entry_of line before now at after left_at left_after text plays =
 -- where a command more was done
 pub record Next (machine : State) (place : Place) (start left : Option (List ℕ)) (texts : List ℕ) (entries : List Entry) : Type 0 where
   pub are : AllByRecursion IsEntry entries
-  pub plays : Plays entries machine texts
+  pub plays : Plays blank entries machine texts
   pub through : Through start (script_lines entries) (unread place left)
   pub counted : place.number ≡ length (script_lines entries)
 
@@ -99,7 +100,7 @@ pub next_entry : (step : Step) (old new : State) (p q r : Place) (start left_p l
     → Next new r start left_r (played.texts ++ text) (played.entries ++ entry_of has.line old new q r left_q left_r text plays ∷ [])
 next_entry step old new p q r start left_p left_q left_r before after text played has plays =
     let entry = entry_of has.line old new q r left_q left_r text plays in
-    let passes = passes_more p q r left_p left_q left_r (has.line ∷ []) (lines_behind entry.command entry.body)
+    let passes = passes_more p q r left_p left_q left_r (has.line ∷ []) (lines_after entry.command entry.body)
     (passes_line step p q left_p left_q has) plays.plays.passes in
     let more = script_more played.entries entry in
     record {
@@ -130,12 +131,12 @@ plays_more step old new p q r start left_p left_q left_r before mid after text p
 
 -- all lines were read
 pub ends_whole : (machine : State) (p : Place) (start left before after : Option (List ℕ)) → HasPlayed machine p start left before after
-    → IsSpent (unread p left) → Told start IsShort → Told start (Ends (Ok tt) before after)
-ends_whole machine p None left before after played spent short = tt
-ends_whole machine p (Some a) left before after played spent short =
+    → IsSpent (unread p left) → Told start IsShort → (left_after : Option (List ℕ)) → Told start (Ends (Ok tt) left_after before after)
+ends_whole machine p None left before after played spent short left_after = tt
+ends_whole machine p (Some a) left before after played spent short left_after =
     go (unread p left) played.through spent
   where
-    go : (rest : Option (List ℕ)) → Through (Some a) (script_lines played.entries) rest → IsSpent rest → Ends (Ok tt) before after a
+    go : (rest : Option (List ℕ)) → Through (Some a) (script_lines played.entries) rest → IsSpent rest → Ends (Ok tt) left_after before after a
     go None through is = absurd cc
     go (Some b) through is =
         let empty : b ≡ [] = ap (λ held. unwrap_or held b) is in
@@ -154,24 +155,78 @@ ends_whole machine p (Some a) left before after played spent short =
           written = played.written;
         }
 
--- what was written so far is what the first commands print
-pub wrote_part : (machine : State) (p : Place) (start left before after : Option (List ℕ)) → HasPlayed machine p start left before after
-    → Told start (Wrote (λ whole. IsPlayedInPart (lines whole)) before after)
-wrote_part machine p start left before after played =
-    told_all start (unread p left) (script_lines played.entries) (λ _. Unit {0}) _ played.through
-    (λ a b is _. (played.texts, (played.entries, record { are = played.are; more = lines b; lines_are = is }, (machine, played.plays)), played.written))
-    (told_any (unread p left))
-  where
-    told_any : (held : Option (List ℕ)) → Told held (λ _. Unit {0})
-    told_any None = tt
-    told_any (Some b) = tt
+-- commands were played, whole lines that are no whole command came after them, and then no more whole line
+wrote_so_far : (entries : List Entry) (machine : State) (texts : List ℕ) (more : List (List ℕ)) (p : Place)
+    (start left left_after before after : Option (List ℕ))
+    → AllByRecursion IsEntry entries → Plays blank entries machine texts → IsOpen more
+    → GoesOver first_place p start left → Through start (script_lines entries ++ more) (unread p left)
+    → StopsAt p left left_after → Takes before texts after
+    → Told start (λ input. Told left_after (λ rest. Wrote (IsPlayedBefore rest) before after input))
+wrote_so_far entries machine texts more p None left left_after before after are plays open over through stops written = tt
+wrote_so_far entries machine texts more p (Some input) left None before after are plays open over through stops written = tt
+wrote_so_far entries machine texts more p (Some input) None (Some rest) before after are plays open over through stops written =
+    let no = over.gives in absurd cc
+wrote_so_far entries machine texts more p (Some input) (Some bytes) (Some rest) before after are plays open over through stops written =
+    let taken = holds_at p input bytes rest (script_lines entries ++ more) over through stops in
+    let so_far : IsPlayedSoFar taken.taken texts = record {
+      entries = entries;
+      are = are;
+      more = more;
+      holds = taken.holds;
+      open = open;
+      plays = (machine, plays);
+    } in
+    (texts, (taken.taken, taken.parts, so_far), written)
+
+-- the input stopped before the next command
+pub stopped_at : (machine : State) (p : Place) (start left left_after before after : Option (List ℕ))
+    → HasPlayed machine p start left before after → GoesOver first_place p start left → StopsAt p left left_after
+    → Told start (λ input. Told left_after (λ rest. Wrote (IsPlayedBefore rest) before after input))
+stopped_at machine p start left left_after before after played over stops =
+    wrote_so_far played.entries machine played.texts [] p start left left_after before after played.are played.plays tt over
+    (subst (λ passed. Through start passed (unread p left)) (sym (append-nil (script_lines played.entries))) played.through)
+    stops played.written
+
+-- the input stopped within the body of a command
+pub stopped_within : (step : Step) (machine : State) (p q : Place) (start left_p left_q left_after before after : Option (List ℕ))
+    → (played : HasPlayed machine p start left_p before after) → GoesOver first_place p start left_p
+    → (has : HasLine step p q left_p left_q) → GoesOver p q left_p left_q
+    → IsCutShort (command_of has.line) q left_q left_after
+    → Told start (λ input. Told left_after (λ rest. Wrote (IsPlayedBefore rest) before after input))
+stopped_within step machine p q start left_p left_q left_after before after played over has next cut =
+    let script = script_lines played.entries in
+    wrote_so_far played.entries machine played.texts (has.line ∷ cut.passed) cut.mid start cut.left_mid left_after before after
+    played.are played.plays (cut.format, cut.time, cut.imports, cut.within)
+    (over_more first_place q cut.mid start left_q cut.left_mid (over_more first_place p q start left_p left_q over next) cut.over)
+    (subst (λ passed. Through start passed (unread cut.mid cut.left_mid)) (append_assoc script (has.line ∷ []) cut.passed)
+    (through_more start (unread q left_q) (unread cut.mid cut.left_mid) (script ++ has.line ∷ []) cut.passed
+    (through_more start (unread p left_p) (unread q left_q) script (has.line ∷ []) played.through has.first) cut.through))
+    cut.stops played.written
+
+-- memory ran out at the next command
+pub gave_up : (machine : State) (p : Place) (start left before after : Option (List ℕ))
+    → HasPlayed machine p start left before after → GoesOver first_place p start left → p.reading.ended ≡ false
+    → Told start (Wrote (λ whole text. (rest : List ℕ) × IsPlayedBefore rest whole text) before after)
+gave_up machine p None left before after played over open = tt
+gave_up machine p (Some input) None before after played over open = let no = over.gives in absurd cc
+gave_up machine p (Some input) (Some bytes) before after played over open =
+    let taken = part_at p input bytes (script_lines played.entries) over played.through open in
+    let so_far : IsPlayedSoFar taken.taken played.texts = record {
+      entries = played.entries;
+      are = played.are;
+      more = [];
+      holds = subst (λ whole. Holds taken.taken whole) (sym (append-nil (script_lines played.entries))) taken.holds;
+      open = tt;
+      plays = (machine, played.plays);
+    } in
+    (played.texts, (p.reading.ahead ++ bytes, taken.taken, taken.parts, so_far), played.written)
 
 -- a line is outside the grammar
-pub ends_bad : (step : Step) (machine : State) (p q : Place) (start left_p left_q before after : Option (List ℕ)) (number : ℕ)
+pub ends_bad : (step : Step) (machine : State) (p q : Place) (start left_p left_q left_after before after : Option (List ℕ)) (number : ℕ)
     → (played : HasPlayed machine p start left_p before after) → (has : HasLine step p q left_p left_q)
     → IsBrokenBy (BadLine number) (command_of has.line) q left_q
-    → Told start (Ends (Err (BadLine number)) before after)
-ends_bad step machine p q start left_p left_q before after number played has broken =
+    → Told start (Ends (Err (BadLine number)) left_after before after)
+ends_bad step machine p q start left_p left_q left_after before after number played has broken =
     told_all start (unread q left_q) (script_lines played.entries ++ has.line ∷ []) (λ b. IsCutOff (command_of has.line) (lines b)) _
     (through_more start (unread p left_p) (unread q left_q) (script_lines played.entries) (has.line ∷ []) played.through has.first)
     (λ a b is cut.
@@ -191,7 +246,7 @@ ends_bad step machine p q start left_p left_q before after number played has bro
 pub ends_part : (step : Step) (old new : State) (p q r : Place) (start left_p left_q left_r before mid after : Option (List ℕ)) (text : List ℕ) (n : ℕ)
     → (played : HasPlayed old p start left_p before mid) → (has : HasLine step p q left_p left_q)
     → PlaysLine has.line old new q r left_q left_r text → n ≤ length text → Takes mid (take n text) after
-    → Told start (IsAnsweredInPart replay 0 before after)
+    → Told start (IsAnsweredInPart replay_promise 0 before after)
 ends_part step old new p q r start left_p left_q left_r before mid after text n played has plays within written =
     let entry = entry_of has.line old new q r left_q left_r text plays in
     let next = next_entry step old new p q r start left_p left_q left_r before mid text played has plays in
@@ -223,42 +278,61 @@ plays_none place left before is = record {
   written = takes_nothing before;
 }
 
--- nothing was written yet
-pub wrote_none : (start before : Option (List ℕ)) → Told start (Wrote (λ whole. IsPlayedInPart (lines whole)) before before)
-wrote_none None before = tt
-wrote_none (Some a) before =
-    ([], ([], record { are = tt; more = lines a; lines_are = refl }, (blank, no_command)), takes_nothing before)
+-- memory ran out before anything was read
+pub stopped_none : (start before : Option (List ℕ))
+    → Told start (Wrote (λ whole text. (rest : List ℕ) × IsPlayedBefore rest whole text) before before)
+stopped_none None before = tt
+stopped_none (Some input) before =
+    let holds : Holds [] [] = record { front = []; open = []; parts = refl; ends = inl refl; clear = tt; lines_are = refl } in
+    let so_far : IsPlayedSoFar [] [] = record {
+      entries = [];
+      are = tt;
+      more = [];
+      holds = holds;
+      open = tt;
+      plays = (blank, no_command);
+    } in
+    ([], (input, [], refl, so_far), takes_nothing before)
 
--- a stop that tells no more than what was played
-pub ends_failed : {A : Type 0} (fault : Fault) (machine : State) (p : Place) (start left before after : Option (List ℕ)) → HasPlayed machine p start left before after
+-- an input that is too long
+long_at : (start left_after before after : Option (List ℕ)) → Told start IsTooLong
+    → Told start (λ input. Told left_after (λ rest. Wrote (IsPlayedBefore rest) before after input))
+    → Told start (Ends (Err InputTooLong) left_after before after)
+long_at None left_after before after many wrote = tt
+long_at (Some input) left_after before after many wrote = (many, wrote)
+
+-- a stop before the next command
+pub ends_failed : {A : Type 0} (fault : Fault) (machine : State) (p : Place) (start left left_after before after : Option (List ℕ))
+    → HasPlayed machine p start left before after → GoesOver first_place p start left → StopsAt p left left_after
     → (IsErrOf {T = A} (Err fault) Input ⊎ IsErrOf {T = A} (Err fault) InputTooLong ⊎ IsErrOf {T = A} (Err fault) Memory)
     → (IsErrOf {T = A} (Err fault) InputTooLong → Told start IsTooLong)
-    → Told start (Ends (Err fault) before after)
-ends_failed Input machine p start left before after played one long = wrote_part machine p start left before after played
-ends_failed Memory machine p start left before after played one long = wrote_part machine p start left before after played
-ends_failed InputTooLong machine p start left before after played one long =
-    too_long start (long refl) (wrote_part machine p start left before after played)
-  where
-    too_long : (start : Option (List ℕ)) → Told start IsTooLong → Told start (Wrote (λ whole. IsPlayedInPart (lines whole)) before after)
-        → Told start (Ends (Err InputTooLong) before after)
-    too_long None many wrote = tt
-    too_long (Some a) many wrote = (many, wrote)
-ends_failed Usage machine p start left before after played one long = absurd (search rules)
-ends_failed Output machine p start left before after played one long = absurd (search rules)
-ends_failed (BadLine number) machine p start left before after played one long = absurd (search rules)
+    → Told start (Ends (Err fault) left_after before after)
+ends_failed Input machine p start left left_after before after played over stops one long =
+    stopped_at machine p start left left_after before after played over stops
+ends_failed Memory machine p start left left_after before after played over stops one long =
+    gave_up machine p start left before after played over stops.open
+ends_failed InputTooLong machine p start left left_after before after played over stops one long =
+    long_at start left_after before after (long refl) (stopped_at machine p start left left_after before after played over stops)
+ends_failed Usage machine p start left left_after before after played over stops one long = absurd (search rules)
+ends_failed Output machine p start left left_after before after played over stops one long = absurd (search rules)
+ends_failed (BadLine number) machine p start left left_after before after played over stops one long = absurd (search rules)
 
 -- a command that failed
-pub ends_failed_line : {A : Type 0} (fault : Fault) (step : Step) (machine : State) (p q : Place) (start left_p left_q before after : Option (List ℕ))
-    → (played : HasPlayed machine p start left_p before after) → (has : HasLine step p q left_p left_q)
-    → IsBrokenBy fault (command_of has.line) q left_q → CanPlay fault → (IsErrOf {T = A} (Err fault) InputTooLong → Told start IsTooLong)
-    → Told start (Ends (Err fault) before after)
-ends_failed_line Input step machine p q start left_p left_q before after played has broken can long =
-    ends_failed Input machine p start left_p before after played (inl refl) long
-ends_failed_line Memory step machine p q start left_p left_q before after played has broken can long =
-    ends_failed Memory machine p start left_p before after played (inr (inr refl)) long
-ends_failed_line InputTooLong step machine p q start left_p left_q before after played has broken can long =
-    ends_failed InputTooLong machine p start left_p before after played (inr (inl refl)) long
-ends_failed_line (BadLine number) step machine p q start left_p left_q before after played has broken can long =
-    ends_bad step machine p q start left_p left_q before after number played has broken
-ends_failed_line Usage step machine p q start left_p left_q before after played has broken can long = absurd can
-ends_failed_line Output step machine p q start left_p left_q before after played has broken can long = absurd can
+pub ends_failed_line : {A : Type 0} (fault : Fault) (step : Step) (machine : State) (p q : Place)
+    (start left_p left_q left_after before after : Option (List ℕ))
+    → (played : HasPlayed machine p start left_p before after) → GoesOver first_place p start left_p
+    → (has : HasLine step p q left_p left_q) → GoesOver p q left_p left_q
+    → IsBrokenBy fault (command_of has.line) q left_q → BreaksOff fault (command_of has.line) q left_q left_after
+    → CanPlay fault → (IsErrOf {T = A} (Err fault) InputTooLong → Told start IsTooLong)
+    → Told start (Ends (Err fault) left_after before after)
+ends_failed_line Input step machine p q start left_p left_q left_after before after played over has next broken breaks can long =
+    stopped_within step machine p q start left_p left_q left_after before after played over has next breaks
+ends_failed_line Memory step machine p q start left_p left_q left_after before after played over has next broken breaks can long =
+    gave_up machine p start left_p before after played over has.open
+ends_failed_line InputTooLong step machine p q start left_p left_q left_after before after played over has next broken breaks can long =
+    long_at start left_after before after (long refl)
+    (stopped_within step machine p q start left_p left_q left_after before after played over has next breaks)
+ends_failed_line (BadLine number) step machine p q start left_p left_q left_after before after played over has next broken breaks can long =
+    ends_bad step machine p q start left_p left_q left_after before after number played has broken
+ends_failed_line Usage step machine p q start left_p left_q left_after before after played over has next broken breaks can long = absurd can
+ends_failed_line Output step machine p q start left_p left_q left_after before after played over has next broken breaks can long = absurd can

@@ -4,18 +4,18 @@ use Rattle.std.specs.List.{AllByRecursion}
 use Rattle.vm_script.specs.Command.{command_of, is_body_end}
 use Rattle.vm_script.specs.declared.command.Command.{Command}
 use Rattle.vm_script.specs.declared.command.Command.TheVariants.{Import, Query, Run, End, Close}
-use Rattle.vm_top.specs.Script.{Entry, IsEntry, AreWithin, HasBody, IsCutOff, IsScript, IsBadAt, entry_lines, lines_behind, script_lines}
+use Rattle.vm_top.specs.Script.{Entry, IsEntry, AreWithin, HasBody, IsCutOff, IsScript, IsBadAt, entry_lines, lines_after, script_lines}
 
-head_same : {A : Type 0} (x y : A) (xs ys : List A) → x ∷ xs ≡ y ∷ ys → x ≡ y
+pub head_same : {A : Type 0} (x y : A) (xs ys : List A) → x ∷ xs ≡ y ∷ ys → x ≡ y
 head_same x y xs ys same = cc
 
-tail_same : {A : Type 0} (x y : A) (xs ys : List A) → x ∷ xs ≡ y ∷ ys → xs ≡ ys
+pub tail_same : {A : Type 0} (x y : A) (xs ys : List A) → x ∷ xs ≡ y ∷ ys → xs ≡ ys
 tail_same x y xs ys same = cc
 
-some_same : {A : Type 0} (x y : A) → Some x ≡ Some y → x ≡ y
+pub some_same : {A : Type 0} (x y : A) → Some x ≡ Some y → x ≡ y
 some_same x y same = cc
 
--- behind two bodies the same lines are left
+-- after two bodies the same lines are left
 first_end : (xs ys r s : List (List ℕ)) → AreWithin xs → AreWithin ys → xs ++ codes "." ∷ r ≡ ys ++ codes "." ∷ s → r ≡ s
 first_end [] [] r s in_x in_y same = tail_same (codes ".") (codes ".") r s same
 first_end [] (y ∷ ys) r s in_x in_y same =
@@ -32,27 +32,27 @@ has_end : (xs r : List (List ℕ)) → AreWithin (xs ++ codes "." ∷ r) → ⊥
 has_end [] r within = let no : true ≡ false = within.0 in cc
 has_end (x ∷ xs) r within = has_end xs r within.1
 
--- the lines behind two bodies of one command
-behind_same : (command : Command) (b d r s : List (List ℕ)) → HasBody command b → HasBody command d
-    → lines_behind command b ++ r ≡ lines_behind command d ++ s → r ≡ s
-behind_same (Import format now) b d r s has_b has_d same =
+-- the lines after two bodies of one command
+after_same : (command : Command) (b d r s : List (List ℕ)) → HasBody command b → HasBody command d
+    → lines_after command b ++ r ≡ lines_after command d ++ s → r ≡ s
+after_same (Import format now) b d r s has_b has_d same =
     first_end b d r s has_b has_d (sym (append_assoc b (codes "." ∷ []) r) ∙ same ∙ append_assoc d (codes "." ∷ []) s)
-behind_same (Query run time expression) b d r s has_b has_d same = same
-behind_same (Run run) b d r s has_b has_d same = same
-behind_same (End run) b d r s has_b has_d same = same
-behind_same (Close run) b d r s has_b has_d same = same
+after_same (Query run time expression) b d r s has_b has_d same = same
+after_same (Run run) b d r s has_b has_d same = same
+after_same (End run) b d r s has_b has_d same = same
+after_same (Close run) b d r s has_b has_d same = same
 
 -- two commands at the front of the same lines leave the same lines
-entry_same : (e f : Entry) (r s : List (List ℕ)) → IsEntry e → IsEntry f → entry_lines e ++ r ≡ entry_lines f ++ s → r ≡ s
+pub entry_same : (e f : Entry) (r s : List (List ℕ)) → IsEntry e → IsEntry f → entry_lines e ++ r ≡ entry_lines f ++ s → r ≡ s
 entry_same e f r s is_e is_f same =
-    let line = head_same e.line f.line (lines_behind e.command e.body ++ r) (lines_behind f.command f.body ++ s) same in
+    let line = head_same e.line f.line (lines_after e.command e.body ++ r) (lines_after f.command f.body ++ s) same in
     let command = some_same e.command f.command (sym is_e.says ∙ ap command_of line ∙ is_f.says) in
-    behind_same f.command e.body f.body r s (subst (λ c. HasBody c e.body) command is_e.body) is_f.body
-    (ap (λ c. lines_behind c e.body ++ r) (sym command)
-    ∙ tail_same e.line f.line (lines_behind e.command e.body ++ r) (lines_behind f.command f.body ++ s) same)
+    after_same f.command e.body f.body r s (subst (λ c. HasBody c e.body) command is_e.body) is_f.body
+    (ap (λ c. lines_after c e.body ++ r) (sym command)
+    ∙ tail_same e.line f.line (lines_after e.command e.body ++ r) (lines_after f.command f.body ++ s) same)
 
 -- a command isn't cut off whose body ends
-not_cut : (command : Command) (body r : List (List ℕ)) → IsCutOff (Some command) (lines_behind command body ++ r) → ⊥
+pub not_cut : (command : Command) (body r : List (List ℕ)) → IsCutOff (Some command) (lines_after command body ++ r) → ⊥
 not_cut (Import format now) body r cut = has_end body r (subst AreWithin (append_assoc body (codes "." ∷ []) r) cut)
 not_cut (Query run time expression) body r cut = cut
 not_cut (Run run) body r cut = cut
@@ -65,8 +65,8 @@ never_bad : (es fs : List Entry) (line : List ℕ) (more : List (List ℕ)) → 
 never_bad [] [] line more are_e are_f same cut = cc
 never_bad [] (f ∷ fs) line more are_e are_f same cut = cc
 never_bad (e ∷ es) [] line more are_e are_f same cut =
-    let first = head_same e.line line (lines_behind e.command e.body ++ script_lines es) more same in
-    let rest = tail_same e.line line (lines_behind e.command e.body ++ script_lines es) more same in
+    let first = head_same e.line line (lines_after e.command e.body ++ script_lines es) more same in
+    let rest = tail_same e.line line (lines_after e.command e.body ++ script_lines es) more same in
     let command = ap command_of (sym first) ∙ are_e.0.says in
     not_cut e.command e.body (script_lines es)
     (subst (λ lines. IsCutOff (Some e.command) lines) (sym rest) (subst (λ c. IsCutOff c more) command cut))

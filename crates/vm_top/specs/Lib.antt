@@ -1,12 +1,13 @@
-pub mod Answer
-pub mod Asked
 pub mod ExitCodes
-pub mod Playing
+pub mod Last
+pub mod Laws
 pub mod Printed
-pub mod Reading
+pub mod Promise
 pub mod Replay
 pub mod Reply
 pub mod Rows
 pub mod Script
 pub mod Statuses
 pub mod Words
+pub mod World
+pub mod inner

@@ -1,20 +1,26 @@
 -- What a script does to a machine of one list, and what it prints.
-use Rattle.std.specs.Prelude.{◌≡◌, ℕ, nat_lt, length, List, [], ◌∷◌, ◌++◌, map, count_by, Option, Some, None, Result, Ok, Err, if◌then◌else◌}
+use Rattle.std.specs.Prelude.{◌≡◌, ℕ, nat_lt, length, false, List, [], ◌∷◌, ◌++◌, map, count_by, ◌⊎◌, Option, Some, None, Result, Ok, Err, ⊤, if◌then◌else◌}
+use Rattle.std.specs.List.{AllByRecursion}
 use Rattle.std.specs.Option.{is_none}
 use Rattle.vm_labels.specs.declared.row.Batch.{Batch}
 use Rattle.vm_labels.specs.declared.selector.Selector.{Selector}
+use Rattle.vm_lines.specs.Feeds.{HasNoFeed}
+use Rattle.vm_lines.specs.Lines.{lines}
+use Rattle.vm_lines.specs.Reading.{EndsInFeed}
 use Rattle.vm_machine.specs.Batches.{batches_of, row_count}
 use Rattle.vm_machine.specs.Machine.{State, Event, import, begin, read, end, close, Answer, accepted, Steps}
 use Rattle.vm_machine.specs.declared.question.Question.{Question}
 use Rattle.vm_machine.specs.declared.refusal.Refusal.{Refusal}
 use Rattle.vm_machine.specs.declared.refusal.Refusal.TheVariants.{BadRange, NotBuilt}
+use Rattle.vm_script.specs.Command.{command_of}
 use Rattle.vm_script.specs.Expression.{selector_of}
 use Rattle.vm_script.specs.declared.command.Command.{Command}
 use Rattle.vm_script.specs.declared.command.Command.TheVariants.{Import, Query, Run, End, Close}
 use Rattle.vm_script.specs.declared.command.Format.{Format}
 use Rattle.vm_top.specs.Printed.{printed, accepted_line, refused_line}
+use Rattle.vm_top.specs.Promise.{Promise, IsTooLong}
 use Rattle.vm_top.specs.Rows.{format_rows, or_none}
-use Rattle.vm_top.specs.Script.{Entry, Begins, IsScript, Breaks}
+use Rattle.vm_top.specs.Script.{Entry, IsEntry, AreWithin, Begins, IsScript, Breaks, script_lines}
 
 -- a machine to which nothing happened yet
 abbrev pub blank : State
@@ -80,16 +86,16 @@ Does (Close run) body before now text = Answers run (close run) before now text
 abbrev pub Acts : Entry → State → State → List ℕ → Type 0
 Acts entry before now text = Does entry.command entry.body before now text
 
--- commands are done, one after the other, and this is printed
-pub data Plays : List Entry → State → List ℕ → Type 0 where
-  no_command : Plays [] blank []
+-- from a state on commands are done, one after the other, and this is printed
+pub data Plays (before : State) : List Entry → State → List ℕ → Type 0 where
+  no_command : Plays before [] before []
   next_command : (entries : List Entry) (entry : Entry) (mid now : State) (texts text : List ℕ)
-      → Plays entries mid texts → Acts entry mid now text
-      → Plays (entries ++ entry ∷ []) now (texts ++ text)
+      → Plays before entries mid texts → Acts entry mid now text
+      → Plays before (entries ++ entry ∷ []) now (texts ++ text)
 
--- a text is what commands print
+-- a text is what commands print on a machine to which nothing happened yet
 abbrev pub IsPlayOf : List Entry → List ℕ → Type 0
-IsPlayOf entries text = (now : State) × Plays entries now text
+IsPlayOf entries text = (now : State) × Plays blank entries now text
 
 -- what all commands of a script print
 abbrev pub IsPlayed : List (List ℕ) → List ℕ → Type 0
@@ -102,3 +108,43 @@ IsPlayedInPart lines text = (entries : List Entry) × Begins lines entries × Is
 -- what all commands print before the first line outside the grammar
 abbrev pub IsPlayedToBad : List (List ℕ) → List ℕ → Type 0
 IsPlayedToBad lines text = (entries : List Entry) × Breaks lines entries × IsPlayOf entries text
+
+-- these are the whole lines in bytes that were taken: those up to the last line feed
+pub record Holds (taken : List ℕ) (whole : List (List ℕ)) : Type 0 where
+  pub front : List ℕ
+  pub open : List ℕ
+  pub parts : taken ≡ front ++ open
+  pub ends : (front ≡ []) ⊎ EndsInFeed front
+  pub clear : HasNoFeed open
+  pub lines_are : whole ≡ lines front
+
+-- no line, or an import with lines of its body, which has no end yet
+abbrev pub IsOpen : List (List ℕ) → Type 0
+IsOpen [] = ⊤
+IsOpen (line ∷ body) =
+    (format : Format) × (time : ℕ) × (command_of line ≡ Some (Import format time)) × AreWithin body
+
+-- What all commands print whose lines stand whole in the bytes that were taken, and nothing else. After them come
+-- at most an import and lines of its body.
+pub record IsPlayedSoFar (taken text : List ℕ) : Type 0 where
+  pub entries : List Entry
+  pub are : AllByRecursion IsEntry entries
+  pub more : List (List ℕ)
+  pub holds : Holds taken (script_lines entries ++ more)
+  pub open : IsOpen more
+  pub plays : IsPlayOf entries text
+
+-- this is what was written by the time that so much of the input was left
+abbrev pub IsPlayedBefore : List ℕ → List ℕ → List ℕ → Type 0
+IsPlayedBefore left input text = (taken : List ℕ) × (input ≡ taken ++ left) × IsPlayedSoFar taken text
+
+-- `replay` prints what the commands of its script print, one after the other. It refuses an input that is too long,
+-- and a script with a line outside its grammar. It doesn't read the clock.
+abbrev pub replay_promise : Promise
+replay_promise = record {
+  reads_clock = false;
+  answers = λ now input text. IsPlayed (lines input) text;
+  owes = λ now input text. IsPlayedInPart (lines input) text;
+  refuses = λ left input text. (IsTooLong input × IsPlayedBefore left input text) ⊎ IsPlayedToBad (lines input) text;
+  stops = IsPlayedBefore;
+}

@@ -18,11 +18,11 @@ abbrev pub series : ℕ → Valued → List ℕ
 series at valued =
     codes "{\"metric\":" ++ label_json valued.labels ++ codes ",\"value\":" ++ point at valued.value ++ codes "}"
 
--- a series behind another one
+-- a series after another one
 abbrev pub next_series : ℕ → Valued → List ℕ
 next_series at valued = 44 ∷ series at valued
 
--- the reply to an instant query, with a line feed behind it
+-- the reply to an instant query, with a line feed after it
 abbrev pub reply : ℕ → List Valued → List ℕ
 reply at values =
     codes "{\"status\":\"success\",\"data\":{\"resultType\":\"vector\",\"result\":["

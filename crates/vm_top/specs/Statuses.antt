@@ -1,102 +1,84 @@
--- What a command may answer, and why.
-use Rattle.std.specs.Prelude.{◌≡◌, ◌≢◌, ℕ, ◌^◌, ◌<◌, ◌≤◌, List, [], ◌++◌, length, take, codes, decimal, ◌⊎◌, Option, Some, None, Result, Ok, Err, ⊤}
+-- What was done by the time that the program ends, by its status.
+use Rattle.std.specs.Prelude.{◌≡◌, ℕ, ◌≤◌, Bool, true, false, List, [], ◌++◌, length, take, codes, decimal, ◌⊎◌, Option, Some, None, Result, Ok, Err, ⊤}
+use Rattle.std.specs.Option.{option_map}
+use Rattle.vm_lines.specs.Lines.{lines}
 use Rattle.vm_outside.specs.Clock.{Answers}
 use Rattle.vm_outside.specs.Outside.{Rose, Takes, Told}
-use Rattle.vm_lines.specs.Lines.{lines}
-use Rattle.vm_top.specs.Answer.{last_answer}
-use Rattle.vm_top.specs.Replay.{IsPlayed, IsPlayedInPart, IsPlayedToBad}
+use Rattle.vm_top.specs.Last.{last_promise}
+use Rattle.vm_top.specs.Promise.{Promise, IsShort, IsTooLong}
+use Rattle.vm_top.specs.Replay.{replay_promise}
 use Rattle.vm_top.specs.Script.{IsBadAt}
 use Rattle.vm_top.specs.Words.{Task, last, replay}
+use Rattle.vm_top.specs.World.{World}
 use Rattle.vm_top.specs.declared.fault.Fault.{Fault}
 use Rattle.vm_top.specs.declared.fault.Fault.TheVariants.{Usage, InputTooLong, BadLine, Input, Output, Memory}
 use Rattle.vm_top.specs.declared.status.Status.{Status}
 use Rattle.vm_top.specs.declared.status.Status.TheVariants as code
 
--- the input has an end that the program comes to
-abbrev pub IsShort : List ℕ → Type 0
-IsShort input = length input < 2 ^ 62
+-- what each command promises
+abbrev pub promise_of : Task → Promise
+promise_of (last name time) = last_promise name time
+promise_of replay = replay_promise
 
--- the input has no end that the program comes to
-abbrev pub IsTooLong : List ℕ → Type 0
-IsTooLong input = 2 ^ 62 ≤ length input
-
--- the clock was read once for `last`, and not for `replay`
-abbrev pub IsClocked : Task → ℕ → Option (List ℕ) → Option (List ℕ) → Type 0
-IsClocked (last name time) now before after = Answers before now after
-IsClocked replay now before after = after ≡ before
-
--- a text is the answer of a task over an input, where the clock says `now`
-abbrev pub IsAnswer : Task → ℕ → List ℕ → List ℕ → Type 0
-IsAnswer (last name time) now input text = text ≡ last_answer name time now input
-IsAnswer replay now input text = IsPlayed (lines input) text
-
--- a text is what was to be written by the time that the output failed: of a script the answers of its
--- first commands
-abbrev pub IsDue : Task → ℕ → List ℕ → List ℕ → Type 0
-IsDue (last name time) now input text = IsShort input × (text ≡ last_answer name time now input)
-IsDue replay now input text = IsPlayedInPart (lines input) text
-
--- a text is what was written by a task that refused something: `last` writes nothing before its answer,
--- a script the answers of the commands before the first line outside its grammar
-abbrev pub IsRefused : Task → List ℕ → List ℕ → Type 0
-IsRefused (last name time) input text = IsTooLong input × (text ≡ [])
-IsRefused replay input text =
-    (IsTooLong input × IsPlayedInPart (lines input) text) ⊎ IsPlayedToBad (lines input) text
-
--- a text is what was written by a task that stopped for another cause
-abbrev pub IsStopped : Task → List ℕ → List ℕ → Type 0
-IsStopped (last name time) input text = text ≡ []
-IsStopped replay input text = IsPlayedInPart (lines input) text
-
--- the answer was written, and nothing else
-pub record IsAnswered (task : Task) (now : ℕ) (before after : Option (List ℕ)) (input : List ℕ) : Type 0 where
-  pub short : IsShort input
-  pub text : List ℕ
-  pub answers : IsAnswer task now input text
-  pub written : Takes before text after
-
--- a first part of what was due was written, and nothing else
-pub record IsAnsweredInPart (task : Task) (now : ℕ) (before after : Option (List ℕ)) (input : List ℕ) : Type 0 where
-  pub text : List ℕ
-  pub due : IsDue task now input text
-  pub part : ℕ
-  pub within : part ≤ length text
-  pub written : Takes before (take part text) after
+-- the clock was read once and said `now`, or not at all
+abbrev pub IsClocked : Bool → ℕ → Option (List ℕ) → Option (List ℕ) → Type 0
+IsClocked true now before after = Answers before now after
+IsClocked false now before after = after ≡ before
 
 -- a text of this kind was written, and nothing else
 abbrev pub Wrote : (List ℕ → List ℕ → Type 0) → Option (List ℕ) → Option (List ℕ) → List ℕ → Type 0
 Wrote Is before after input = (text : List ℕ) × Is input text × Takes before text after
 
--- A task was done over an input up to a status. What was written is the answer where all went well, a
--- first part of it where the output failed, and else what stood fast by then.
-pub record IsDone (task : Task) (status : Status) (clock_before clock_after left before after : Option (List ℕ)) : Type 0 where
+-- the answer was written, and nothing else
+pub record IsAnswered (promise : Promise) (now : ℕ) (before after : Option (List ℕ)) (input : List ℕ) : Type 0 where
+  pub short : IsShort input
+  pub text : List ℕ
+  pub answers : promise.answers now input text
+  pub written : Takes before text after
+
+-- a first part of what was due was written, and nothing else
+pub record IsAnsweredInPart (promise : Promise) (now : ℕ) (before after : Option (List ℕ)) (input : List ℕ) : Type 0 where
+  pub text : List ℕ
+  pub due : promise.owes now input text
+  pub part : ℕ
+  pub within : part ≤ length text
+  pub written : Takes before (take part text) after
+
+-- What was done of a promise, from one world to another, by the time that the program ends with a status.
+pub record IsDone (promise : Promise) (status : Status) (before after : World) : Type 0 where
   pub now : ℕ
-  pub clock : IsClocked task now clock_before clock_after
-  pub answered : status ≡ code.Ok → Told left (IsAnswered task now before after)
-  pub part : status ≡ code.OutputFault → Told left (IsAnsweredInPart task now before after)
-  pub refused : status ≡ code.Refused → Told left (Wrote (IsRefused task) before after)
-  pub stopped : status ≢ code.Ok → status ≢ code.OutputFault → Told left (Wrote (IsStopped task) before after)
+  pub clock : IsClocked promise.reads_clock now before.clock after.clock
+  -- 0: it answered, and read the input to its end
+  pub answered : status ≡ code.Ok → Told before.input (IsAnswered promise now before.output after.output)
+  pub read : status ≡ code.Ok → after.input ≡ option_map (λ _. []) before.input
+  -- 1: it refused its input
+  pub refused : status ≡ code.Refused → Told before.input (λ input. Told after.input (λ left.
+      Wrote (promise.refuses left) before.output after.output input))
+  -- 3: memory ran out, and this is what it would have written had the input failed somewhere
+  pub stopped : status ≡ code.Memory → Told before.input
+      (Wrote (λ input text. (left : List ℕ) × promise.stops left input text) before.output after.output)
+  -- 6: the input failed, and counted that
+  pub failed : status ≡ code.InputFault → Told before.input (λ input. Told after.input (λ left.
+      Wrote (promise.stops left) before.output after.output input))
+  pub input_fault : status ≡ code.InputFault → Rose before.input_faults after.input_faults
+  -- 7: the output failed, and counted that
+  pub part : status ≡ code.OutputFault → Told before.input (IsAnsweredInPart promise now before.output after.output)
+  pub output_fault : status ≡ code.OutputFault → Rose before.output_faults after.output_faults
+  -- no other status is given
+  pub known : (status ≡ code.Ok) ⊎ (status ≡ code.Refused) ⊎ (status ≡ code.Memory)
+      ⊎ (status ≡ code.InputFault) ⊎ (status ≡ code.OutputFault)
 
--- what the words ask for was done; where they are no command, nothing was
-abbrev pub IsDoneBy : Option Task → Status → Option (List ℕ) → Option (List ℕ) → Option (List ℕ) → Option (List ℕ) → Option (List ℕ) → Type 0
-IsDoneBy None status clock_before clock_after left before after = (clock_after ≡ clock_before) × (after ≡ before)
-IsDoneBy (Some task) status clock_before clock_after left before after =
-    IsDone task status clock_before clock_after left before after
-
--- no line of a script is outside the grammar
-abbrev pub HasNoBadLine : Option Task → List ℕ → Type 0
-HasNoBadLine None input = ⊤
-HasNoBadLine (Some (last name time)) input = ⊤
-HasNoBadLine (Some replay) input = (number : ℕ) → IsBadAt number (lines input) → ⊥
+-- what the words ask for was done; words that are no command are `Usage`, and change nothing
+abbrev pub IsDoneBy : Option Task → Status → World → World → Type 0
+IsDoneBy None status before after = (status ≡ code.Usage) × (after ≡ before)
+IsDoneBy (Some task) status before after = IsDone (promise_of task) status before after
 
 -- why a fault comes, as far as the words and the input tell
 abbrev pub IsCause : Fault → Option Task → List ℕ → Type 0
 IsCause Usage task input = task ≡ None
 IsCause InputTooLong task input = IsTooLong input
 IsCause (BadLine number) task input = (task ≡ Some replay) × IsBadAt number (lines input)
-IsCause Input task input = ⊤
-IsCause Output task input = ⊤
-IsCause Memory task input = ⊤
+IsCause _ task input = ⊤
 
 -- the status of a fault
 abbrev pub status_of : Fault → Status

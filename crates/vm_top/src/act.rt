@@ -1,32 +1,37 @@
-//! The commands of a script on a machine, each with what it prints.
+//! The commands of a script on a machine, each with what it answers.
 
 ghost use Rattle.std.specs.Prelude.{◌≡◌, ◌<◌, ◌^◌, ℕ, List as ListOf, Ok, Err, IfOk, IfErr, OnOk};
 ghost use Rattle.vm_machine.specs.Machine.{Steps, begin, read, end, close, begun, as_answer};
-ghost use Rattle.vm_top.specs.Playing.{Gathers, IsAsked, IsReply};
 ghost use Rattle.vm_top.specs.Replay.{question_of, Answers, Accepts, Refuses, Imports};
+ghost use Rattle.vm_top.specs.inner.Playing.{Gathers, IsAsked, IsInRange, Prints};
 
 use crate::body::Body;
-use crate::printed::{accepted_line, refused_line, run_line};
-use crate::reply::reply;
+use crate::response::Response;
 use std::alloc::{AllocError, Global};
 use vm_base::List;
 use vm_base::limits::MAX_TIME;
 use vm_labels::Batch;
-use vm_machine::{Machine, Question, Refusal, Valued};
+use vm_machine::{Machine, Question, Refusal};
 use vm_script::read_selector;
 
 /// Imports a body by batches, up to the first batch that is refused.
-pub fn import_body(alloc: Global, machine: &mut Machine, body: Body) -> Result<Vec<u8>, AllocError>
-    ensures { IfOk result (λ text. (passed : ListOf (ListOf ℕ)) → Gathers body passed
-        → Imports body.format body.time passed machine.old machine.new text.items) }
+pub fn import_body(machine: &mut Machine, body: Body) -> Result<Response, AllocError>
+    ensures answers { IfOk result (λ response. (passed : ListOf (ListOf ℕ)) → Gathers body passed
+        → (text : ListOf ℕ) → Prints response text
+        → Imports body.format body.time passed machine.old machine.new text) }
+    ensures small { IfOk result IsInRange }
 {
     let skipped = body.skipped();
     let rows = body.rows();
-    let batches = body.into_batches()?;
-    let count = batches.len();
-    match import_all(machine, batches) {
-        Ok(()) => accepted_line(alloc, count, rows, skipped),
-        Err(why) => refused_line(alloc, why),
+    let all = body.into_batches()?;
+    let batches = all.len();
+    match import_all(machine, all) {
+        Ok(()) => Ok(Response::Accepted {
+            batches,
+            rows,
+            skipped,
+        }),
+        Err(why) => Ok(Response::Refused { why }),
     }
 }
 
@@ -47,13 +52,14 @@ pub fn begin_query(
     run: u64,
     time: u64,
     expression: &str,
-) -> Result<Vec<u8>, AllocError>
-    ensures { IfOk result (λ text.
-        Answers run (begin run (question_of time expression.now)) machine.old machine.new text.items) }
+) -> Response
+    ensures answers { (text : ListOf ℕ) → Prints result text
+        → Answers run (begin run (question_of time expression.now)) machine.old machine.new text }
+    ensures small { IsInRange result }
 {
     match begin(alloc, machine, run, time, expression) {
-        Ok(()) => run_line(alloc, run),
-        Err(why) => refused_line(alloc, why),
+        Ok(()) => Response::Begun { run },
+        Err(why) => Response::Refused { why },
     }
 }
 
@@ -89,43 +95,35 @@ fn question_of(alloc: Global, time: u64, expression: &str) -> Result<Question, R
 }
 
 /// Reads one series for a run.
-pub fn read_series(alloc: Global, machine: &mut Machine, run: u64) -> Result<Vec<u8>, AllocError>
-    ensures { IfOk result (λ text. Answers run (read run) machine.old machine.new text.items) }
+pub fn read_series(machine: &mut Machine, run: u64) -> Response
+    ensures answers { (text : ListOf ℕ) → Prints result text → Answers run (read run) machine.old machine.new text }
+    ensures small { IsInRange result }
 {
     match machine.read(run) {
-        Ok(true) => Vec::from_slice(alloc, b"read\n"),
-        Ok(false) => Vec::from_slice(alloc, b"complete\n"),
-        Err(why) => refused_line(alloc, why),
+        Ok(true) => Response::Read,
+        Ok(false) => Response::Complete,
+        Err(why) => Response::Refused { why },
     }
 }
 
 /// Ends a run, with its answer.
-pub fn end_run(alloc: Global, machine: &mut Machine, run: u64) -> Result<Vec<u8>, AllocError>
-    ensures { IfOk result (λ text. Answers run (end run) machine.old machine.new text.items) }
+pub fn end_run(alloc: Global, machine: &mut Machine, run: u64) -> Response
+    ensures answers { (text : ListOf ℕ) → Prints result text → Answers run (end run) machine.old machine.new text }
+    ensures small { IsInRange result }
 {
     match machine.end(alloc, run) {
-        Ok((time, values)) => reply_or_refusal(alloc, time, &values),
-        Err(why) => refused_line(alloc, why),
-    }
-}
-
-/// The reply, or the refusal of one for which there is no memory.
-fn reply_or_refusal(alloc: Global, time: u64, values: &List<Valued>) -> Result<Vec<u8>, AllocError>
-    requires { time < 2 ^ 48 }
-    ensures { IfOk result (λ text. IsReply time values.now text.items) }
-{
-    match reply(alloc, time, values.as_slice()) {
-        Ok(body) => Ok(body),
-        Err(AllocError) => refused_line(alloc, Refusal::Memory),
+        Ok((time, values)) => Response::Values { time, values },
+        Err(why) => Response::Refused { why },
     }
 }
 
 /// Closes a run.
-pub fn close_run(alloc: Global, machine: &mut Machine, run: u64) -> Result<Vec<u8>, AllocError>
-    ensures { IfOk result (λ text. Answers run (close run) machine.old machine.new text.items) }
+pub fn close_run(machine: &mut Machine, run: u64) -> Response
+    ensures answers { (text : ListOf ℕ) → Prints result text → Answers run (close run) machine.old machine.new text }
+    ensures small { IsInRange result }
 {
     match machine.close(run) {
-        Ok(()) => Vec::from_slice(alloc, b"closed\n"),
-        Err(why) => refused_line(alloc, why),
+        Ok(()) => Response::Closed,
+        Err(why) => Response::Refused { why },
     }
 }

@@ -1,16 +1,17 @@
 //! The body of an import: the rows of its lines, in batches.
 
-ghost use Rattle.std.specs.Prelude.{◌≡◌, ◌≤◌, ◌<◌, ◌^◌, ◌+◌, [], ℕ, List as ListOf, None, length, IfOk, OnOk, OnErr, IsErrOf, ◌⊎◌};
-ghost use Rattle.vm_lines.specs.Reading.{to_go};
+ghost use Rattle.std.specs.Prelude.{◌≡◌, ◌≤◌, ◌<◌, ◌^◌, ◌+◌, [], ℕ, List as ListOf, None, Some, length, IfOk, IfErr, OnOk, OnErr, IsErrOf, ◌⊎◌};
+ghost use Rattle.vm_lines.specs.Reading.{to_go, KnowsEnd};
 ghost use Rattle.vm_machine.specs.Batches.{enough, with_more, row_count};
 ghost use Rattle.vm_outside.specs.Outside.{Rose, Told};
 ghost use Rattle.vm_jsonline.specs.Means.{rows_said};
 ghost use Rattle.vm_jsonline.specs.Reading.{reading as json_reading};
 ghost use Rattle.vm_promtext.specs.Means.{rows_of};
 ghost use Rattle.vm_script.specs.Command.{is_body_end};
-ghost use Rattle.vm_top.specs.Playing.{Adds, Gathers, ReadsBody};
+ghost use Rattle.vm_script.specs.declared.command.Command.TheVariants.{Import};
+ghost use Rattle.vm_top.specs.inner.Playing.{Adds, BreaksOff, Gathers, ReadsBody};
 ghost use Rattle.vm_top.specs.Rows.{format_rows};
-ghost use Rattle.vm_top.specs.Reading.{Takes, IsLineOf};
+ghost use Rattle.vm_top.specs.inner.Reading.{Takes, GoesOver, IsLineOf};
 
 use crate::fault::Fault;
 use crate::input_lines::InputLines;
@@ -39,7 +40,7 @@ pub struct Body {
 
 impl Model for Body {
     ghost use Rattle.std.specs.Prelude.{◌<◌, ◌^◌};
-    ghost use Rattle.vm_top.specs.Playing.{BodyOf};
+    ghost use Rattle.vm_top.specs.inner.Playing.{BodyOf};
 
     ghost Value = { BodyOf };
 
@@ -139,11 +140,13 @@ pub fn read_body<S: Source>(
     lines: &mut InputLines,
     input: &mut S,
 ) -> Result<Option<Body>, Fault>
-    requires { time < 2 ^ 48 }
+    requires time { time < 2 ^ 48 }
+    requires knows { KnowsEnd lines.old.reading (S.left input.old) }
 
     // What `Ok` holds.
     ensures reads { IfOk result (λ body.
         ReadsBody format time body lines.old lines.new (S.left input.old) (S.left input.new)) }
+    ensures over { OnOk result (GoesOver lines.old lines.new (S.left input.old) (S.left input.new)) }
 
     // When each error comes.
     ensures input_fault { IsErrOf result Fault.Input → Rose (S.faults input.old) (S.faults input.new) }
@@ -151,8 +154,11 @@ pub fn read_body<S: Source>(
         2 ^ 62 ≤ lines.old.reading.taken + length bytes) }
     ensures others { OnErr result (IsErrOf result Fault.Input ⊎ IsErrOf result Fault.InputTooLong
         ⊎ IsErrOf result Fault.Memory) }
+    ensures breaks { IfErr result (λ fault.
+        BreaksOff fault (Some (Import format time)) lines.old (S.left input.old) (S.left input.new)) }
 
     // What each call does to the bytes.
+    ensures end { KnowsEnd lines.new.reading (S.left input.new) }
     ensures takes { Takes lines.old lines.new (S.left input.old) (S.left input.new) }
     ensures counted { S.faults input.old ≤ S.faults input.new }
 {

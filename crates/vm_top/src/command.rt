@@ -1,10 +1,11 @@
 //! What a command line asks for, done over its input, its output and the clock.
 
-ghost use Rattle.std.specs.Prelude.{◌≡◌, ◌≢◌, ◌↔◌, ◌≤◌, [], None, Some, ◌<◌, ◌^◌, map, string_bytes, IfErr, OnOk, IsErrOf};
-ghost use Rattle.std.specs.Option.{option_map};
-ghost use Rattle.vm_outside.specs.Outside.{Rose, Told};
-ghost use Rattle.vm_top.specs.Statuses.{IsDone, IsDoneBy, IsCause, HasNoBadLine, outcome};
+ghost use Rattle.std.specs.Prelude.{◌≤◌, Some, ◌<◌, ◌^◌, map, string_bytes, IfErr};
+ghost use Rattle.vm_outside.specs.Outside.{Told};
+ghost use Rattle.vm_top.specs.Last.{last_promise};
+ghost use Rattle.vm_top.specs.Statuses.{IsDone, IsDoneBy, IsCause, outcome};
 ghost use Rattle.vm_top.specs.Words.{asked, last};
+ghost use Rattle.vm_top.specs.World.{world};
 
 use crate::fault::Fault;
 use crate::last::last_answer;
@@ -21,21 +22,11 @@ pub fn run<S: Source, K: Sink, C: Clock>(
     output: &mut K,
     clock: &mut C,
 ) -> Result<(), Fault>
-    // What is done.
     ensures done { IsDoneBy (asked (map string_bytes words.now)) (outcome result)
-        (C.answers clock.old) (C.answers clock.new) (S.left input.old) (K.taken output.old) (K.taken output.new) }
-    ensures read { OnOk result (S.left input.new ≡ option_map (λ _. []) (S.left input.old)) }
-    ensures whole { OnOk result (Told (S.left input.old) (HasNoBadLine (asked (map string_bytes words.now)))) }
-
-    // When each error comes, and what was read and written then.
+        (world (C.answers clock.old) (S.left input.old) (S.faults input.old) (K.taken output.old) (K.faults output.old))
+        (world (C.answers clock.new) (S.left input.new) (S.faults input.new) (K.taken output.new) (K.faults output.new)) }
     ensures cause { IfErr result (λ fault. Told (S.left input.old)
         (IsCause fault (asked (map string_bytes words.now)))) }
-    ensures usage { IsErrOf result Fault.Usage ↔ (asked (map string_bytes words.now) ≡ None) }
-    ensures input_fault { IsErrOf result Fault.Input → Rose (S.faults input.old) (S.faults input.new) }
-    ensures output_fault { IsErrOf result Fault.Output →
-        Rose (K.faults output.old) (K.faults output.new) }
-    ensures untouched { asked (map string_bytes words.now) ≡ None →
-        S.left input.new ≡ S.left input.old }
 
     // No count falls.
     ensures input_counted { S.faults input.old ≤ S.faults input.new }
@@ -58,16 +49,10 @@ fn run_last<S: Source, K: Sink, C: Clock>(
     clock: &mut C,
 ) -> Result<(), Fault>
     requires { time < 2 ^ 48 }
-    ensures done { IsDone (last name.now time) (outcome result)
-        (C.answers clock.old) (C.answers clock.new) (S.left input.old) (K.taken output.old) (K.taken output.new) }
-    ensures read { OnOk result (S.left input.new ≡ option_map (λ _. []) (S.left input.old)) }
+    ensures done { IsDone (last_promise name.now time) (outcome result)
+        (world (C.answers clock.old) (S.left input.old) (S.faults input.old) (K.taken output.old) (K.faults output.old))
+        (world (C.answers clock.new) (S.left input.new) (S.faults input.new) (K.taken output.new) (K.faults output.new)) }
     ensures cause { IfErr result (λ fault. Told (S.left input.old) (IsCause fault (Some (last name.now time)))) }
-    ensures known { IsErrOf result Fault.Usage → ⊥ }
-    ensures input_fault { IsErrOf result Fault.Input → Rose (S.faults input.old) (S.faults input.new) }
-    ensures output_fault { IsErrOf result Fault.Output →
-        Rose (K.faults output.old) (K.faults output.new) }
-    ensures silent { IfErr result (λ fault.
-        fault ≢ Fault.Output → K.taken output.new ≡ K.taken output.old) }
     ensures input_counted { S.faults input.old ≤ S.faults input.new }
     ensures output_counted { K.faults output.old ≤ K.faults output.new }
 {

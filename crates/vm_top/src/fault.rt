@@ -44,7 +44,7 @@ impl From<AllocError> for Fault {
 
 impl From<LineFault> for Fault {
     ghost use Rattle.std.specs.Prelude.{◌≡◌};
-    ghost use Rattle.vm_top.specs.Asked.{fault_of_lines};
+    ghost use Rattle.vm_top.specs.inner.Asked.{fault_of_lines};
 
     ghost from_gives = { λ why fault. fault ≡ fault_of_lines why };
 

@@ -1,8 +1,9 @@
 //! The lines of an input, with their numbers.
 
-ghost use Rattle.std.specs.Prelude.{◌≡◌, ◌+◌, ◌≤◌, ◌^◌, length, IfOk, OnErr, IsErrOf, ◌⊎◌};
+ghost use Rattle.std.specs.Prelude.{◌≡◌, ◌+◌, ◌≤◌, ◌^◌, length, IfOk, OnOk, OnErr, IsErrOf, ◌⊎◌};
+ghost use Rattle.vm_lines.specs.Reading.{KnowsEnd};
 ghost use Rattle.vm_outside.specs.Outside.{Rose, Told};
-ghost use Rattle.vm_top.specs.Reading.{Comes, Takes, first_place};
+ghost use Rattle.vm_top.specs.inner.Reading.{Comes, Takes, GoesOver, StopsAt, first_place};
 
 use crate::fault::Fault;
 use std::alloc::{AllocError, Global};
@@ -20,7 +21,7 @@ pub struct InputLines {
 impl Model for InputLines {
     ghost use Rattle.std.specs.Prelude.{◌+◌, ◌≤◌, ◌^◌};
     ghost use Rattle.vm_lines.specs.Reading.{to_go};
-    ghost use Rattle.vm_top.specs.Reading.{Place};
+    ghost use Rattle.vm_top.specs.inner.Reading.{Place};
 
     ghost Value = { Place };
 
@@ -55,9 +56,12 @@ impl InputLines {
 
     /// Goes to the next line, which is shown or is too long to be shown. None at the input's end.
     pub fn advance<S: Source>(&mut self, input: &mut S) -> Result<Option<Step>, Fault>
+        requires { KnowsEnd self.old.reading (S.left input.old) }
+
         // What `Ok` holds.
         ensures comes { IfOk result (λ step.
             Comes step self.old self.new (S.left input.old) (S.left input.new)) }
+        ensures over { OnOk result (GoesOver self.old self.new (S.left input.old) (S.left input.new)) }
 
         // When each error comes.
         ensures input_fault { IsErrOf result Fault.Input → Rose (S.faults input.old) (S.faults input.new) }
@@ -65,8 +69,10 @@ impl InputLines {
             2 ^ 62 ≤ self.old.reading.taken + length bytes) }
         ensures others { OnErr result (IsErrOf result Fault.Input ⊎ IsErrOf result Fault.InputTooLong
             ⊎ IsErrOf result Fault.Memory) }
+        ensures stops { OnErr result (StopsAt self.old (S.left input.old) (S.left input.new)) }
 
         // What each call does to the bytes.
+        ensures end { KnowsEnd self.new.reading (S.left input.new) }
         ensures takes { Takes self.old self.new (S.left input.old) (S.left input.new) }
         ensures counted { S.faults input.old ≤ S.faults input.new }
     {

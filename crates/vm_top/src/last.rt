@@ -8,10 +8,10 @@ ghost use Rattle.vm_machine.specs.Found.{found as found_in};
 ghost use Rattle.vm_outside.specs.Outside.{Told, Rose};
 ghost use Rattle.vm_promtext.specs.Means.{rows_of};
 ghost use Rattle.vm_promtext.specs.Reading.{reading};
-ghost use Rattle.vm_top.specs.Answer.{named, question, last_answer};
-ghost use Rattle.vm_top.specs.Reading.{IsLineOf};
+ghost use Rattle.vm_top.specs.Last.{named, question, last_answer};
+ghost use Rattle.vm_top.specs.inner.Reading.{IsLineOf};
 ghost use Rattle.vm_top.specs.Rows.{rows, or_none};
-ghost use Rattle.vm_top.specs.Statuses.{IsShort};
+ghost use Rattle.vm_top.specs.Promise.{IsShort};
 
 use crate::fault::Fault;
 use crate::input_lines::InputLines;

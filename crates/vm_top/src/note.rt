@@ -1,15 +1,11 @@
 //! The line that says why a command ended.
 
-ghost use Rattle.std.specs.Prelude.{◌≡◌, ◌≤◌, ◌<◌, ◌+◌, ◌++◌, length, decimal};
+ghost use Rattle.std.specs.Prelude.{◌≡◌, ◌≤◌, ◌++◌, length};
 ghost use Rattle.vm_top.specs.Statuses.{IsNote, note_of, text_of};
 
 use crate::fault::Fault;
-use arrayvec::ArrayVec;
-use itoa::Buffer;
+use crate::short::{Short, put, put_number};
 use vm_outside::{Sink, write_all};
-
-/// The length of the longest note: that of a bad line with 20 digits.
-const LONGEST: usize = 47;
 
 /// Writes the line that says a fault. A fault of `notes` itself is left aside.
 pub fn write_note<N: Sink>(notes: &mut N, fault: Fault)
@@ -28,20 +24,20 @@ fn write_line<N: Sink>(notes: &mut N, line: &[u8])
     let _ = write_all(notes, line);
 }
 
-fn note_of(fault: Fault) -> ArrayVec<u8, LONGEST>
+fn note_of(fault: Fault) -> Short
     ensures { result.items ≡ note_of fault }
 {
-    let mut note = ArrayVec::new();
+    let mut note = Short::new();
     put(&mut note, b"vmsingle: ");
     put_text(&mut note, fault);
-    note.push(b'\n');
+    put(&mut note, b"\n");
     note
 }
 
-fn put_text(note: &mut ArrayVec<u8, LONGEST>, fault: Fault)
+fn put_text(note: &mut Short, fault: Fault)
     requires { length note.old.items ≤ 10 }
     ensures text { note.new.items ≡ note.old.items ++ text_of fault }
-    ensures room { length note.new.items < 47 }
+    ensures room { length note.new.items ≤ 92 }
 {
     match fault {
         Fault::Usage => put(note, b"usage"),
@@ -54,20 +50,4 @@ fn put_text(note: &mut ArrayVec<u8, LONGEST>, fault: Fault)
         Fault::Output => put(note, b"output fault"),
         Fault::Memory => put(note, b"out of memory"),
     }
-}
-
-fn put_number(note: &mut ArrayVec<u8, LONGEST>, number: u64)
-    requires { length note.old.items ≤ 26 }
-    ensures text { note.new.items ≡ note.old.items ++ decimal number }
-    ensures room { length note.new.items < 47 }
-{
-    let mut buffer = Buffer::new();
-    put(note, buffer.format(number).as_bytes());
-}
-
-fn put(note: &mut ArrayVec<u8, LONGEST>, piece: &[u8])
-    requires { length note.old.items + length piece.now ≤ 47 }
-    ensures { note.new.items ≡ note.old.items ++ piece.now }
-{
-    let _ = note.try_extend_from_slice(piece);
 }

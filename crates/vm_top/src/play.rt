@@ -1,28 +1,29 @@
 //! `replay`: the commands of a script, done one after the other as they are read.
 
-ghost use Rattle.std.specs.Prelude.{◌≡◌, ◌≤◌, ◌^◌, ◌+◌, ◌<◌, ℕ, List as ListOf, [], length, take, IfOk, IfErr, IfSome, Some, OnOk, OnErr, IsErrOf, ◌⊎◌};
+ghost use Rattle.std.specs.Prelude.{◌≡◌, ◌≤◌, ◌^◌, ◌+◌, ◌<◌, ℕ, List as ListOf, [], length, IfOk, IfErr, IfSome, Some, OnOk, OnErr, IsErrOf};
 ghost use Rattle.std.specs.Option.{option_map};
+ghost use Rattle.vm_lines.specs.Reading.{KnowsEnd};
 ghost use Rattle.vm_outside.specs.Outside.{Rose, Told};
-ghost use Rattle.vm_outside.specs.Outside as outside;
 ghost use Rattle.vm_script.specs.Command.{command_of, IsBounded};
-ghost use Rattle.vm_script.specs.declared.command.Command.TheVariants.{Import};
-ghost use Rattle.vm_top.specs.Playing.{PlaysCommand, PlaysLine, IsBrokenBy, CanPlay, Ends};
-ghost use Rattle.vm_top.specs.Reading.{Takes, IsLineOf};
+ghost use Rattle.vm_top.specs.inner.Playing.{PlaysCommand, PlaysLine, Prints, IsInRange, IsBrokenBy, BreaksOff, CanPlay, Ends};
+ghost use Rattle.vm_top.specs.inner.Reading.{Takes, GoesOver, IsLineOf};
 
 use crate::act::{begin_query, close_run, end_run, import_body, read_series};
 use crate::body::read_body;
 use crate::fault::Fault;
 use crate::input_lines::InputLines;
+use crate::response::{Response, write_response};
 use std::alloc::{AllocError, Global};
 use vm_lines::Step;
 use vm_machine::Machine;
-use vm_outside::{Failed, Sink, Source, write_all};
+use vm_outside::{Sink, Source};
 use vm_script::{Command, read_command};
 
 /// Plays a script on a machine to which nothing happened yet. What a command prints is written before
 /// the next command is read.
 pub fn play<S: Source, K: Sink>(alloc: Global, input: &mut S, output: &mut K) -> Result<(), Fault>
-    ensures ends { Told (S.left input.old) (Ends result (K.taken output.old) (K.taken output.new)) }
+    ensures ends { Told (S.left input.old)
+        (Ends result (S.left input.new) (K.taken output.old) (K.taken output.new)) }
     ensures read { OnOk result (S.left input.new ≡ option_map (λ _. []) (S.left input.old)) }
     ensures known { IsErrOf result Fault.Usage → ⊥ }
     ensures input_fault { IsErrOf result Fault.Input → Rose (S.faults input.old) (S.faults input.new) }
@@ -34,41 +35,34 @@ pub fn play<S: Source, K: Sink>(alloc: Global, input: &mut S, output: &mut K) ->
     let mut lines = InputLines::new(alloc)?;
     let mut machine = Machine::new(alloc);
     'lines: while let Some(step) = lines.advance(input)? {
-        let text = play_line(alloc, &mut machine, &mut lines, step, input)?;
-        write_text(output, &text)?;
+        let response = play_line(alloc, &mut machine, &mut lines, step, input)?;
+        write_response(alloc, output, response)?;
     }
     Ok(())
 }
 
-fn write_text<K: Sink>(output: &mut K, text: &[u8]) -> Result<(), Fault>
-    ensures all { OnOk result (outside.Takes (K.taken output.old) text.now (K.taken output.new)) }
-    ensures part { OnErr result ((n : ℕ) × (n ≤ length text.now)
-        × outside.Takes (K.taken output.old) (take n text.now) (K.taken output.new)) }
-    ensures only { OnErr result (IsErrOf result Fault.Output) }
-    ensures failed { OnErr result (Rose (K.faults output.old) (K.faults output.new)) }
-    ensures counted { K.faults output.old ≤ K.faults output.new }
-{
-    match write_all(output, text) {
-        Ok(()) => Ok(()),
-        Err(Failed) => Err(Fault::Output),
-    }
-}
-
-/// Does the command of the line that was come to: what it prints.
+/// Does the command of the line that was come to.
 fn play_line<S: Source>(
     alloc: Global,
     machine: &mut Machine,
     lines: &mut InputLines,
     step: Step,
     input: &mut S,
-) -> Result<Vec<u8>, Fault>
+) -> Result<Response, Fault>
+    requires { KnowsEnd lines.old.reading (S.left input.old) }
+
     // What `Ok` holds.
-    ensures plays { IfOk result (λ text. (line : ListOf ℕ) → IsLineOf step lines.old.reading.line line
-        → PlaysLine line machine.old machine.new lines.old lines.new (S.left input.old) (S.left input.new) text.items) }
+    ensures plays { IfOk result (λ response. (line : ListOf ℕ) → IsLineOf step lines.old.reading.line line
+        → (text : ListOf ℕ) → Prints response text
+        → PlaysLine line machine.old machine.new lines.old lines.new (S.left input.old) (S.left input.new) text) }
+    ensures small { IfOk result IsInRange }
+    ensures over { OnOk result (GoesOver lines.old lines.new (S.left input.old) (S.left input.new)) }
 
     // When each error comes.
     ensures broken { IfErr result (λ fault. (line : ListOf ℕ) → IsLineOf step lines.old.reading.line line
         → IsBrokenBy fault (command_of line) lines.old (S.left input.old)) }
+    ensures breaks { IfErr result (λ fault. (line : ListOf ℕ) → IsLineOf step lines.old.reading.line line
+        → BreaksOff fault (command_of line) lines.old (S.left input.old) (S.left input.new)) }
     ensures known { IfErr result CanPlay }
     ensures input_fault { IsErrOf result Fault.Input → Rose (S.faults input.old) (S.faults input.new) }
     ensures too_long { IsErrOf result Fault.InputTooLong → Told (S.left input.old) (λ bytes.
@@ -76,6 +70,7 @@ fn play_line<S: Source>(
 
     // What each call does to the bytes.
     ensures takes { Takes lines.old lines.new (S.left input.old) (S.left input.new) }
+    ensures end { KnowsEnd lines.new.reading (S.left input.new) }
     ensures counted { S.faults input.old ≤ S.faults input.new }
 {
     let command = command_at(alloc, step, lines.line())?;
@@ -107,23 +102,29 @@ fn play_command<S: Source>(
     lines: &mut InputLines,
     input: &mut S,
     command: Command,
-) -> Result<Vec<u8>, Fault>
-    requires { IsBounded command }
-    ensures plays { IfOk result (λ text. PlaysCommand command machine.old machine.new lines.old lines.new
-        (S.left input.old) (S.left input.new) text.items) }
+) -> Result<Response, Fault>
+    requires bounded { IsBounded command }
+    requires knows { KnowsEnd lines.old.reading (S.left input.old) }
+    ensures plays { IfOk result (λ response. (text : ListOf ℕ) → Prints response text
+        → PlaysCommand command machine.old machine.new lines.old lines.new (S.left input.old) (S.left input.new) text) }
+    ensures small { IfOk result IsInRange }
+    ensures over { OnOk result (GoesOver lines.old lines.new (S.left input.old) (S.left input.new)) }
     ensures broken { IfErr result (λ fault. IsBrokenBy fault (Some command) lines.old (S.left input.old)) }
+    ensures breaks { IfErr result (λ fault.
+        BreaksOff fault (Some command) lines.old (S.left input.old) (S.left input.new)) }
     ensures known { IfErr result CanPlay }
     ensures input_fault { IsErrOf result Fault.Input → Rose (S.faults input.old) (S.faults input.new) }
     ensures too_long { IsErrOf result Fault.InputTooLong → Told (S.left input.old) (λ bytes.
         2 ^ 62 ≤ lines.old.reading.taken + length bytes) }
     ensures takes { Takes lines.old lines.new (S.left input.old) (S.left input.new) }
+    ensures end { KnowsEnd lines.new.reading (S.left input.new) }
     ensures counted { S.faults input.old ≤ S.faults input.new }
 {
     match command {
         Command::Import { format, now } => {
             let number = lines.number();
             match read_body(alloc, format, now, lines, input)? {
-                Some(body) => Ok(import_body(alloc, machine, body)?),
+                Some(body) => Ok(import_body(machine, body)?),
                 None => Err(Fault::BadLine { line: number }),
             }
         }
@@ -131,9 +132,9 @@ fn play_command<S: Source>(
             run,
             time,
             expression,
-        } => Ok(begin_query(alloc, machine, run, time, expression.as_str())?),
-        Command::Run { run } => Ok(read_series(alloc, machine, run)?),
-        Command::End { run } => Ok(end_run(alloc, machine, run)?),
-        Command::Close { run } => Ok(close_run(alloc, machine, run)?),
+        } => Ok(begin_query(alloc, machine, run, time, expression.as_str())),
+        Command::Run { run } => Ok(read_series(machine, run)),
+        Command::End { run } => Ok(end_run(alloc, machine, run)),
+        Command::Close { run } => Ok(close_run(machine, run)),
     }
 }

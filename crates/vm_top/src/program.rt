@@ -1,10 +1,9 @@
 //! The program's one call, with its theorem.
 
-ghost use Rattle.std.specs.Prelude.{◌≡◌, ◌≢◌, ◌↔◌, ◌⊎◌, ◌≤◌, [], None, false, map, string_bytes};
-ghost use Rattle.std.specs.Option.{option_map};
-ghost use Rattle.vm_outside.specs.Outside.{Rose, Told};
-ghost use Rattle.vm_top.specs.Statuses.{IsDoneBy, IsNoted, HasNoBadLine};
+ghost use Rattle.std.specs.Prelude.{◌≡◌, ◌≤◌, false, map, string_bytes};
+ghost use Rattle.vm_top.specs.Statuses.{IsDoneBy, IsNoted};
 ghost use Rattle.vm_top.specs.Words.{asked};
+ghost use Rattle.vm_top.specs.World.{world};
 
 use crate::command::run;
 use crate::note::write_note;
@@ -40,27 +39,14 @@ pub fn run_words<S: Source, K: Sink, N: Sink, D: Disk, L: Link, C: Clock, P: Pat
 ) -> Status
     requires { L.present link.old ≡ false }
 
-    // What the words ask for is done, by the definitions, over the whole input.
+    // What the words ask for is done, by the definitions, over the whole input; each other status has its cause.
     ensures done { IsDoneBy (asked (map string_bytes words.now)) result
-        (C.answers clock.old) (C.answers clock.new) (S.left input.old) (K.taken output.old) (K.taken output.new) }
-    ensures read { result ≡ Status.Ok → S.left input.new ≡ option_map (λ _. []) (S.left input.old) }
-
-    ensures whole { result ≡ Status.Ok → Told (S.left input.old)
-        (HasNoBadLine (asked (map string_bytes words.now))) }
-
-    // When each other status comes, and what was written then.
-    ensures usage { (result ≡ Status.Usage) ↔ (asked (map string_bytes words.now) ≡ None) }
-    ensures input_fault { result ≡ Status.InputFault →
-        Rose (S.faults input.old) (S.faults input.new) }
-    ensures output_fault { result ≡ Status.OutputFault →
-        Rose (K.faults output.old) (K.faults output.new) }
-    ensures others { (result ≡ Status.Ok) ⊎ (result ≡ Status.Usage) ⊎ (result ≡ Status.Refused)
-        ⊎ (result ≡ Status.Memory) ⊎ (result ≡ Status.InputFault) ⊎ (result ≡ Status.OutputFault) }
+        (world (C.answers clock.old) (S.left input.old) (S.faults input.old) (K.taken output.old) (K.faults output.old))
+        (world (C.answers clock.new) (S.left input.new) (S.faults input.new) (K.taken output.new) (K.faults output.new)) }
     ensures noted { IsNoted result (asked (map string_bytes words.now)) (S.left input.old)
         (N.taken notes.old) (N.taken notes.new) (N.faults notes.old) (N.faults notes.new) }
 
     // What stays.
-    ensures untouched { asked (map string_bytes words.now) ≡ None → S.left input.new ≡ S.left input.old }
     ensures disk { disk.new ≡ disk.old }
     ensures link { link.new ≡ link.old }
     ensures patterns { patterns.new ≡ patterns.old }

@@ -3,7 +3,7 @@
 ghost use Rattle.std.specs.Prelude.{◌≡◌, ◌<◌, ◌^◌, ◌++◌, ◌∷◌, [], IfSome, map, string_bytes, codes};
 ghost use Rattle.std.specs.Option.{option_map};
 ghost use Rattle.std.specs.Str.{bytes_eq};
-ghost use Rattle.vm_top.specs.Asked.{task_of, IsSmall};
+ghost use Rattle.vm_top.specs.inner.Asked.{task_of, IsSmall};
 ghost use Rattle.vm_top.specs.Words.{asked, last_of, replay_of, positional, time_of};
 
 use vm_base::limits::MAX_TIME;

@@ -2,11 +2,12 @@ use Rattle.std.proofs.Common.{◌++◌, [], Err, IsErrOf, rules, arith, refl, sy
 use Rattle.vm_machine.specs.Found.{found}
 use Rattle.vm_machine.proofs.FoundLaws.{found_empty}
 use Rattle.vm_promtext.specs.Means.{rows_of}
-use Rattle.vm_top.specs.Reading.{Comes, HasLine, IsLineOf, first_place, unread}
+use Rattle.vm_top.specs.inner.Reading.{Comes, HasLine, IsLineOf, first_place, unread}
 use Rattle.vm_top.specs.Rows.{rows, line_rows, or_none}
 use Rattle.vm_top.specs.declared.fault.Fault.TheVariants.{InputTooLong}
 use Rattle.vm_top.proofs.InputLaws.{takes_more, long_from}
 use Rattle.vm_top.proofs.LastLaws.{all_unread, none_taken, row_step}
+use Rattle.vm_top.proofs.TakenLaws.{knows_none}
 use Rattle.vm_top.proofs.last.find_in.Goals as goal
 
 pub lines-init : goal.lines-init
@@ -14,6 +15,7 @@ lines-init g c =
     let left = g.S.Source.left c.args.input.now in
     record {
       found = ([], c.new-found.ensures ∙ sym (found_empty c.args.question.now), all_unread (rows c.args.now) c.in_ok-lines.lines left c.in_ok-lines.ensures);
+      knows = knows_none c.in_ok-lines.lines left c.in_ok-lines.ensures;
       takes = none_taken c.in_ok-lines.lines left c.in_ok-lines.ensures;
       counted = omega arith;
     }
@@ -39,6 +41,7 @@ lines-preserved g c =
         row_step c.args.now before.0 (left c.args.input.now) (unread c.lines.lines (left c.lines.input))
             (unread c.advance.new.self (left c.advance.new.input)) has.line before.2 has.first,
       );
+      knows = c.advance.ensures.end;
       takes = takes_more first_place c.lines.lines c.advance.new.self (left c.args.input.now) (left c.lines.input)
           (left c.advance.new.input) c.lines.invariant.takes c.in_ok-step.ensures.takes;
       counted = omega (arith, c.lines.invariant.counted, c.in_ok-step.ensures.counted);

@@ -1,7 +1,7 @@
 use Rattle.std.proofs.Common.{◌≤◌}
-use Rattle.vm_lines.specs.Reading.{to_go}
-use Rattle.vm_top.specs.Playing.{HasPlayed}
-use Rattle.vm_top.specs.Reading.{Takes, first_place}
+use Rattle.vm_lines.specs.Reading.{to_go, KnowsEnd}
+use Rattle.vm_top.specs.inner.Playing.{HasPlayed}
+use Rattle.vm_top.specs.inner.Reading.{Takes, GoesOver, first_place}
 use Rattle.vm_top.proofs.play.play.Given as goal
 
 abbrev pub invariant-lines : goal.invariant-lines
@@ -10,6 +10,8 @@ invariant-lines g l =
     let taken = g.K.Sink.taken in
     record {
       played : HasPlayed l.machine l.lines (left l.initial.input) (left l.input) (taken l.initial.output) (taken l.output);
+      over : GoesOver first_place l.lines (left l.initial.input) (left l.input);
+      knows : KnowsEnd l.lines.reading (left l.input);
       takes : Takes first_place l.lines (left l.initial.input) (left l.input);
       input_counted : g.S.Source.faults l.initial.input ≤ g.S.Source.faults l.input;
       output_counted : g.K.Sink.faults l.initial.output ≤ g.K.Sink.faults l.output;

@@ -1,6 +1,6 @@
 use Rattle.std.proofs.Common.{◌+◌, ◌++◌, take, drop, arith, ◌∙◌, ap, length-drop}
 use Rattle.std.proofs.lemmas.List.{length-take-le, with_items_is}
-use Rattle.vm_lines.specs.Held.{Bytes}
+use Rattle.vm_lines.specs.inner.Held.{Bytes}
 use Rattle.vm_lines.proofs.HeldLaws.{refilled}
 use Rattle.vm_lines.proofs.held.Held.read_piece.Goals as goal
 

@@ -1,4 +1,4 @@
--- What the words of a command line ask for, as the program holds it: words of inner contracts.
+-- What the words of a command line ask for, as the program holds it.
 use Rattle.std.specs.Prelude.{◌<◌, ◌^◌, ⊤}
 use Rattle.vm_lines.specs.declared.fault.LineFault.{LineFault}
 use Rattle.vm_lines.specs.declared.fault.LineFault.TheVariants as lines

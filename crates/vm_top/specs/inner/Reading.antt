@@ -1,7 +1,8 @@
--- An input that is read line by line: words of inner contracts, which the theorem doesn't cite.
-use Rattle.std.specs.Prelude.{◌≡◌, ℕ, ◌+◌, ◌<◌, ◌^◌, true, List, [], length, Option, Some, None}
+-- An input that is read line by line.
+use Rattle.std.specs.Prelude.{◌≡◌, ℕ, ◌+◌, ◌<◌, ◌^◌, Bool, true, false, List, [], ◌++◌, length, ◌⊎◌, Option, Some, None}
+use Rattle.vm_lines.specs.Feeds.{HasNoFeed}
 use Rattle.vm_lines.specs.Lines.{is_too_long}
-use Rattle.vm_lines.specs.Reading.{Reading, rest, to_go, IsFirstLine, IsSpent}
+use Rattle.vm_lines.specs.Reading.{Reading, rest, to_go, EndsInFeed, IsFirstLine, IsSpent}
 use Rattle.vm_lines.specs.declared.step.Step.{Step}
 use Rattle.vm_lines.specs.declared.step.Step.TheVariants.{Line, TooLong, End}
 use Rattle.vm_outside.specs.Outside.{Gives}
@@ -34,6 +35,7 @@ pub record HasLine (step : Step) (before after : Place) (left_before left_after 
   pub first : IsFirstLine (unread before left_before) line (unread after left_after)
   pub counted : after.number ≡ before.number + 1
   pub nearer : to_go after.reading < to_go before.reading
+  pub open : before.reading.ended ≡ false
 
 -- the input's end was come to
 pub record IsAtEnd (before after : Place) (left_before left_after : Option (List ℕ)) : Type 0 where
@@ -47,4 +49,24 @@ Comes (Some step) before after left_before left_after = HasLine step before afte
 
 -- a place of which nothing was read
 abbrev pub first_place : Place
-first_place = record { reading = record { line = []; ahead = []; taken = 0 }; number = 0 }
+first_place = record { reading = record { line = []; ahead = []; taken = 0; ended = false }; number = 0 }
+
+-- bytes that whole lines have: none, some that a line feed ends, or all up to the end of the input
+abbrev pub AreWhole : List ℕ → Bool → Type 0
+AreWhole through ended = (through ≡ []) ⊎ (EndsInFeed through ⊎ (ended ≡ true))
+
+-- the reader went over the bytes of whole lines
+pub record GoesOver (before after : Place) (left_before left_after : Option (List ℕ)) : Type 0 where
+  pub piece : List ℕ
+  pub gives : Gives left_before piece left_after
+  pub through : List ℕ
+  pub goes : before.reading.ahead ++ piece ≡ through ++ after.reading.ahead
+  pub whole : AreWhole through after.reading.ended
+  pub stays : before.reading.ended ≡ true → after.reading.ended ≡ true
+
+-- no whole line came, and the end of the input wasn't met
+pub record StopsAt (before : Place) (left_before left_after : Option (List ℕ)) : Type 0 where
+  pub piece : List ℕ
+  pub gives : Gives left_before piece left_after
+  pub clear : HasNoFeed (before.reading.ahead ++ piece)
+  pub open : before.reading.ended ≡ false

@@ -1,5 +1,5 @@
--- A script that is played line by line: words of inner contracts, which the theorem doesn't cite.
-use Rattle.std.specs.Prelude.{◌≡◌, ℕ, ◌+◌, ◌<◌, ◌≤◌, List, [], ◌∷◌, ◌++◌, length, map, codes, Option, Some, None, Result, Ok, Err, ⊤, ◌⊎◌, if◌then◌else◌}
+-- A script that is played line by line.
+use Rattle.std.specs.Prelude.{◌≡◌, ℕ, ◌+◌, ◌^◌, ◌<◌, ◌≤◌, List, [], ◌∷◌, ◌++◌, length, take, map, codes, decimal, Option, Some, None, Result, Ok, Err, OnOk, OnErr, ⊤, ◌⊎◌, if◌then◌else◌}
 use Rattle.std.specs.List.{AllByRecursion}
 use Rattle.std.specs.Option.{option_map, is_none}
 use Rattle.vm_lines.specs.Lines.{lines}
@@ -8,23 +8,25 @@ use Rattle.vm_labels.specs.declared.row.Row.{Row}
 use Rattle.vm_machine.specs.Batches.{Parted, batches_of, enough, with_more}
 use Rattle.vm_machine.specs.Machine.{State}
 use Rattle.vm_machine.specs.declared.question.Question.{Question}
-use Rattle.vm_machine.specs.declared.question.Valued.{Valued}
 use Rattle.vm_machine.specs.declared.refusal.Refusal.{Refusal}
 use Rattle.vm_machine.specs.declared.refusal.Refusal.TheVariants.{Memory as OutOfMemory}
 use Rattle.vm_outside.specs.Outside.{Told, Takes}
 use Rattle.vm_script.specs.declared.command.Command.{Command}
+use Rattle.vm_script.specs.declared.command.Command.TheVariants.{Import}
 use Rattle.vm_script.specs.declared.command.Format.{Format}
 use Rattle.vm_script.specs.Command.{command_of}
-use Rattle.vm_top.specs.Printed.{refused_line}
-use Rattle.vm_top.specs.Reading.{Place, unread}
+use Rattle.vm_top.specs.Printed.{accepted_line, refused_line}
+use Rattle.vm_top.specs.Promise.{IsTooLong}
 use Rattle.vm_top.specs.Reply.{reply}
-use Rattle.vm_top.specs.Replay.{skipped, Does, Plays, IsPlayedInPart, IsPlayedToBad}
+use Rattle.vm_top.specs.Replay.{blank, skipped, Does, Plays, IsPlayedBefore, IsPlayedToBad, replay_promise}
 use Rattle.vm_top.specs.Rows.{format_rows, or_none}
-use Rattle.vm_top.specs.Script.{Entry, IsEntry, HasBody, AreWithin, IsCutOff, IsBadAt, lines_behind, script_lines}
-use Rattle.vm_top.specs.Statuses.{IsTooLong, IsAnswered, IsAnsweredInPart, Wrote}
-use Rattle.vm_top.specs.Words.{replay}
+use Rattle.vm_top.specs.Script.{Entry, IsEntry, HasBody, AreWithin, IsCutOff, IsBadAt, lines_after, script_lines}
+use Rattle.vm_top.specs.Statuses.{IsAnswered, IsAnsweredInPart, Wrote}
+use Rattle.vm_top.specs.inner.Reading.{Place, unread, GoesOver, StopsAt}
 use Rattle.vm_top.specs.declared.fault.Fault.{Fault}
 use Rattle.vm_top.specs.declared.fault.Fault.TheVariants.{Usage, InputTooLong, BadLine, Input, Output, Memory}
+use Rattle.vm_top.specs.declared.response.Response.{Response}
+use Rattle.vm_top.specs.declared.response.Response.TheVariants as response
 
 -- these lines are the first of what was to be read, and the other lines are still to be read
 abbrev pub Through : Option (List ℕ) → List (List ℕ) → Option (List ℕ) → Type 0
@@ -81,7 +83,7 @@ pub record PlaysCommand (command : Command) (before now : State) (at after : Pla
   pub body : List (List ℕ)
   pub has : HasBody command body
   pub does : Does command body before now text
-  pub passes : Passes (lines_behind command body) at after left_at left_after
+  pub passes : Passes (lines_after command body) at after left_at left_after
 
 -- the command of a line was done
 pub record PlaysLine (line : List ℕ) (before now : State) (at after : Place) (left_at left_after : Option (List ℕ)) (text : List ℕ) : Type 0 where
@@ -94,20 +96,32 @@ pub record PlaysLine (line : List ℕ) (before now : State) (at after : Place) (
 abbrev pub IsBrokenBy : Fault → Option Command → Place → Option (List ℕ) → Type 0
 IsBrokenBy (BadLine number) command at left_at =
     (number ≡ at.number) × Told (unread at left_at) (λ bytes. IsCutOff command (lines bytes))
-IsBrokenBy Usage command at left_at = ⊤
-IsBrokenBy InputTooLong command at left_at = ⊤
-IsBrokenBy Input command at left_at = ⊤
-IsBrokenBy Output command at left_at = ⊤
-IsBrokenBy Memory command at left_at = ⊤
+IsBrokenBy _ command at left_at = ⊤
+
+-- of the body of an import whole lines came that don't end it, and then no more whole line
+pub record IsCutShort (command : Option Command) (at : Place) (left_at left_after : Option (List ℕ)) : Type 0 where
+  pub format : Format
+  pub time : ℕ
+  pub imports : command ≡ Some (Import format time)
+  pub passed : List (List ℕ)
+  pub within : AreWithin passed
+  pub mid : Place
+  pub left_mid : Option (List ℕ)
+  pub through : Through (unread at left_at) passed (unread mid left_mid)
+  pub over : GoesOver at mid left_at left_mid
+  pub stops : StopsAt mid left_mid left_after
+
+-- where the input stopped within a command
+abbrev pub BreaksOff : Fault → Option Command → Place → Option (List ℕ) → Option (List ℕ) → Type 0
+BreaksOff Input command at left_at left_after = IsCutShort command at left_at left_after
+BreaksOff InputTooLong command at left_at left_after = IsCutShort command at left_at left_after
+BreaksOff _ command at left_at left_after = ⊤
 
 -- a command can fail so
 abbrev pub CanPlay : Fault → Type 0
-CanPlay (BadLine number) = ⊤
 CanPlay Usage = ⊥
-CanPlay InputTooLong = ⊤
-CanPlay Input = ⊤
 CanPlay Output = ⊥
-CanPlay Memory = ⊤
+CanPlay _ = ⊤
 
 -- a question is the one that is asked for, unless memory ran out
 abbrev pub IsAsked : Result Question Refusal → Result Question Refusal → Type 0
@@ -119,23 +133,40 @@ pub record HasPlayed (machine : State) (place : Place) (start left before after 
   pub entries : List Entry
   pub are : AllByRecursion IsEntry entries
   pub texts : List ℕ
-  pub plays : Plays entries machine texts
+  pub plays : Plays blank entries machine texts
   pub through : Through start (script_lines entries) (unread place left)
   pub counted : place.number ≡ length (script_lines entries)
   pub written : Takes before texts after
 
--- how a script ends over an input, and what was written by then
-abbrev pub Ends : Result Unit Fault → Option (List ℕ) → Option (List ℕ) → List ℕ → Type 0
-Ends (Ok done) before after input = IsAnswered replay 0 before after input
-Ends (Err Output) before after input = IsAnsweredInPart replay 0 before after input
-Ends (Err (BadLine number)) before after input =
+-- how a script ends over an input, of which so much is left, and what was written by then
+abbrev pub Ends : Result Unit Fault → Option (List ℕ) → Option (List ℕ) → Option (List ℕ) → List ℕ → Type 0
+Ends (Ok done) left before after input = IsAnswered replay_promise 0 before after input
+Ends (Err Output) left before after input = IsAnsweredInPart replay_promise 0 before after input
+Ends (Err (BadLine number)) left before after input =
     IsBadAt number (lines input) × Wrote (λ whole. IsPlayedToBad (lines whole)) before after input
-Ends (Err InputTooLong) before after input =
-    IsTooLong input × Wrote (λ whole. IsPlayedInPart (lines whole)) before after input
-Ends (Err Input) before after input = Wrote (λ whole. IsPlayedInPart (lines whole)) before after input
-Ends (Err Memory) before after input = Wrote (λ whole. IsPlayedInPart (lines whole)) before after input
-Ends (Err Usage) before after input = ⊥
+Ends (Err InputTooLong) left before after input =
+    IsTooLong input × Told left (λ rest. Wrote (IsPlayedBefore rest) before after input)
+Ends (Err Input) left before after input = Told left (λ rest. Wrote (IsPlayedBefore rest) before after input)
+Ends (Err Memory) left before after input =
+    Wrote (λ whole text. (rest : List ℕ) × IsPlayedBefore rest whole text) before after input
+Ends (Err Usage) left before after input = ⊥
 
--- the reply with these values, or the refusal of one for want of memory
-abbrev pub IsReply : ℕ → List Valued → List ℕ → Type 0
-IsReply time values text = (text ≡ reply time values) ⊎ (text ≡ refused_line OutOfMemory)
+-- a text is what is written of a response; for a reply memory may run out
+abbrev pub Prints : Response → List ℕ → Type 0
+Prints (response.Accepted batches rows skipped) text = text ≡ accepted_line batches rows skipped
+Prints (response.Begun run) text = text ≡ codes "run " ++ decimal run ++ codes "\n"
+Prints response.Read text = text ≡ codes "read\n"
+Prints response.Complete text = text ≡ codes "complete\n"
+Prints (response.Values time values) text = (text ≡ reply time values) ⊎ (text ≡ refused_line OutOfMemory)
+Prints response.Closed text = text ≡ codes "closed\n"
+Prints (response.Refused why) text = text ≡ refused_line why
+
+-- its time is at most 2^48 - 1
+abbrev pub IsInRange : Response → Type 0
+IsInRange (response.Values time values) = time < 2 ^ 48
+IsInRange _ = ⊤
+
+-- what is written of a response: all of its text, or a first part of it where the output failed
+abbrev pub Writes : Response → Result Unit Fault → Option (List ℕ) → Option (List ℕ) → Type 0
+Writes given result before after = (text : List ℕ) × Prints given text × OnOk result (Takes before text after)
+    × OnErr result ((n : ℕ) × (n ≤ length text) × Takes before (take n text) after)
