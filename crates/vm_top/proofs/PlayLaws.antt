@@ -162,18 +162,18 @@ wrote_so_far : (entries : List Entry) (machine : State) (texts : List ℕ) (more
     → GoesOver first_place p start left → Through start (script_lines entries ++ more) (unread p left)
     → StopsAt p left left_after → Takes before texts after
     → Told start (λ input. Told left_after (λ rest. Wrote (IsPlayedBefore rest) before after input))
-wrote_so_far entries machine texts more p None left left_after before after are plays open over through stops written = tt
-wrote_so_far entries machine texts more p (Some input) left None before after are plays open over through stops written = tt
-wrote_so_far entries machine texts more p (Some input) None (Some rest) before after are plays open over through stops written =
+wrote_so_far entries machine texts more p None left left_after before after are plays waiting over through stops written = tt
+wrote_so_far entries machine texts more p (Some input) left None before after are plays waiting over through stops written = tt
+wrote_so_far entries machine texts more p (Some input) None (Some rest) before after are plays waiting over through stops written =
     let no = over.gives in absurd cc
-wrote_so_far entries machine texts more p (Some input) (Some bytes) (Some rest) before after are plays open over through stops written =
+wrote_so_far entries machine texts more p (Some input) (Some bytes) (Some rest) before after are plays waiting over through stops written =
     let taken = holds_at p input bytes rest (script_lines entries ++ more) over through stops in
     let so_far : IsPlayedSoFar taken.taken texts = record {
       entries = entries;
       are = are;
       more = more;
       holds = taken.holds;
-      open = open;
+      waits = waiting;
       plays = (machine, plays);
     } in
     (texts, (taken.taken, taken.parts, so_far), written)
@@ -207,16 +207,16 @@ stopped_within step machine p q start left_p left_q left_after before after play
 pub gave_up : (machine : State) (p : Place) (start left before after : Option (List ℕ))
     → HasPlayed machine p start left before after → GoesOver first_place p start left → p.reading.ended ≡ false
     → Told start (Wrote (λ whole text. (rest : List ℕ) × IsPlayedBefore rest whole text) before after)
-gave_up machine p None left before after played over open = tt
-gave_up machine p (Some input) None before after played over open = let no = over.gives in absurd cc
-gave_up machine p (Some input) (Some bytes) before after played over open =
-    let taken = part_at p input bytes (script_lines played.entries) over played.through open in
+gave_up machine p None left before after played over waits = tt
+gave_up machine p (Some input) None before after played over unended = let no = over.gives in absurd cc
+gave_up machine p (Some input) (Some bytes) before after played over unended =
+    let taken = part_at p input bytes (script_lines played.entries) over played.through unended in
     let so_far : IsPlayedSoFar taken.taken played.texts = record {
       entries = played.entries;
       are = played.are;
       more = [];
       holds = subst (λ whole. Holds taken.taken whole) (sym (append-nil (script_lines played.entries))) taken.holds;
-      open = tt;
+      waits = tt;
       plays = (machine, played.plays);
     } in
     (played.texts, (p.reading.ahead ++ bytes, taken.taken, taken.parts, so_far), played.written)
@@ -283,13 +283,13 @@ pub stopped_none : (start before : Option (List ℕ))
     → Told start (Wrote (λ whole text. (rest : List ℕ) × IsPlayedBefore rest whole text) before before)
 stopped_none None before = tt
 stopped_none (Some input) before =
-    let holds : Holds [] [] = record { front = []; open = []; parts = refl; ends = inl refl; clear = tt; lines_are = refl } in
+    let holds : Holds [] [] = record { front = []; tail = []; parts = refl; ends = inl refl; clear = tt; lines_are = refl } in
     let so_far : IsPlayedSoFar [] [] = record {
       entries = [];
       are = tt;
       more = [];
       holds = holds;
-      open = tt;
+      waits = tt;
       plays = (blank, no_command);
     } in
     ([], (input, [], refl, so_far), takes_nothing before)
@@ -310,7 +310,7 @@ pub ends_failed : {A : Type 0} (fault : Fault) (machine : State) (p : Place) (st
 ends_failed Input machine p start left left_after before after played over stops one long =
     stopped_at machine p start left left_after before after played over stops
 ends_failed Memory machine p start left left_after before after played over stops one long =
-    gave_up machine p start left before after played over stops.open
+    gave_up machine p start left before after played over stops.unended
 ends_failed InputTooLong machine p start left left_after before after played over stops one long =
     long_at start left_after before after (long refl) (stopped_at machine p start left left_after before after played over stops)
 ends_failed Usage machine p start left left_after before after played over stops one long = absurd (search rules)
@@ -328,7 +328,7 @@ pub ends_failed_line : {A : Type 0} (fault : Fault) (step : Step) (machine : Sta
 ends_failed_line Input step machine p q start left_p left_q left_after before after played over has next broken breaks can long =
     stopped_within step machine p q start left_p left_q left_after before after played over has next breaks
 ends_failed_line Memory step machine p q start left_p left_q left_after before after played over has next broken breaks can long =
-    gave_up machine p start left_p before after played over has.open
+    gave_up machine p start left_p before after played over has.unended
 ends_failed_line InputTooLong step machine p q start left_p left_q left_after before after played over has next broken breaks can long =
     long_at start left_after before after (long refl)
     (stopped_within step machine p q start left_p left_q left_after before after played over has next breaks)

@@ -89,11 +89,11 @@ pub stops_of : (fault : LineFault) (before after : Place) (left_before left_afte
     → Moves before.reading after.reading left_before left_after through
     → GoesThrough (Err fault) after.reading.ended through → HasNoFeed after.reading.ahead
     → before.reading.ended ≡ false → StopsAt before left_before left_after
-stops_of fault before after left_before left_after through moves goes clear open = record {
+stops_of fault before after left_before left_after through moves goes clear unended = record {
   piece = moves.piece;
   gives = moves.gives;
   clear = subst HasNoFeed (sym moves.behind) (clear-append through after.reading.ahead (front goes) clear);
-  open = open;
+  unended = unended;
 }
   where
     front : GoesThrough (Err fault) after.reading.ended through → HasNoFeed through
@@ -120,17 +120,17 @@ front_lines front more (inr feed) =
 
 -- bytes of whole lines that the end of the input didn't end
 ends_of : (through : List ℕ) (ended : Bool) → AreWhole through ended → ended ≡ false → (through ≡ []) ⊎ EndsInFeed through
-ends_of through ended (inl none) open = inl none
-ends_of through ended (inr (inl feed)) open = inr feed
-ends_of through ended (inr (inr is)) open = absurd (true≢false (sym is ∙ open))
+ends_of through ended (inl none) unended = inl none
+ends_of through ended (inr (inl feed)) unended = inr feed
+ends_of through ended (inr (inr is)) unended = absurd (true≢false (sym is ∙ unended))
 
 -- the lines that were passed are those of the bytes that were gone over
 passed_are : (place : Place) (input bytes : List ℕ) (passed : List (List ℕ))
     → (over : GoesOver first_place place (Some input) (Some bytes))
     → Through (Some input) passed (unread place (Some bytes)) → place.reading.ended ≡ false
     → passed ≡ lines over.through
-passed_are place input bytes passed over through open =
-    let ends = ends_of over.through place.reading.ended over.whole open in
+passed_are place input bytes passed over through unended =
+    let ends = ends_of over.through place.reading.ended over.whole unended in
     let all : input ≡ over.through ++ (place.reading.ahead ++ bytes) =
     ap (λ held. unwrap_or held input) over.gives
     ∙ ap (λ front. front ++ bytes) over.goes
@@ -146,22 +146,22 @@ pub holds_at : (place : Place) (input bytes rest : List ℕ) (passed : List (Lis
     → StopsAt place (Some bytes) (Some rest) → Taken input rest passed
 holds_at place input bytes rest passed over through stops =
     let came : bytes ≡ stops.piece ++ rest = ap (λ held. unwrap_or held bytes) stops.gives in
-    let open : List ℕ = place.reading.ahead ++ stops.piece in
+    let tail : List ℕ = place.reading.ahead ++ stops.piece in
     record {
-      taken = over.through ++ open;
+      taken = over.through ++ tail;
       parts = ap (λ held. unwrap_or held input) over.gives
           ∙ ap (λ front. front ++ bytes) over.goes
           ∙ append_assoc over.through place.reading.ahead bytes
           ∙ ap (λ back. over.through ++ (place.reading.ahead ++ back)) came
           ∙ ap (λ back. over.through ++ back) (sym (append_assoc place.reading.ahead stops.piece rest))
-          ∙ sym (append_assoc over.through open rest);
+          ∙ sym (append_assoc over.through tail rest);
       holds = record {
         front = over.through;
-        open = open;
+        tail = tail;
         parts = refl;
-        ends = ends_of over.through place.reading.ended over.whole stops.open;
+        ends = ends_of over.through place.reading.ended over.whole stops.unended;
         clear = stops.clear;
-        lines_are = passed_are place input bytes passed over through stops.open;
+        lines_are = passed_are place input bytes passed over through stops.unended;
       };
     }
 
@@ -169,17 +169,17 @@ holds_at place input bytes rest passed over through stops =
 pub part_at : (place : Place) (input bytes : List ℕ) (passed : List (List ℕ))
     → GoesOver first_place place (Some input) (Some bytes) → Through (Some input) passed (unread place (Some bytes))
     → place.reading.ended ≡ false → Taken input (place.reading.ahead ++ bytes) passed
-part_at place input bytes passed over through open = record {
+part_at place input bytes passed over through unended = record {
   taken = over.through;
   parts = ap (λ held. unwrap_or held input) over.gives
       ∙ ap (λ front. front ++ bytes) over.goes
       ∙ append_assoc over.through place.reading.ahead bytes;
   holds = record {
     front = over.through;
-    open = [];
+    tail = [];
     parts = sym (append-nil over.through);
-    ends = ends_of over.through place.reading.ended over.whole open;
+    ends = ends_of over.through place.reading.ended over.whole unended;
     clear = tt;
-    lines_are = passed_are place input bytes passed over through open;
+    lines_are = passed_are place input bytes passed over through unended;
   };
 }

@@ -112,10 +112,10 @@ IsPlayedToBad lines text = (entries : List Entry) × Breaks lines entries × IsP
 -- these are the whole lines in bytes that were taken: those up to the last line feed
 pub record Holds (taken : List ℕ) (whole : List (List ℕ)) : Type 0 where
   pub front : List ℕ
-  pub open : List ℕ
-  pub parts : taken ≡ front ++ open
+  pub tail : List ℕ
+  pub parts : taken ≡ front ++ tail
   pub ends : (front ≡ []) ⊎ EndsInFeed front
-  pub clear : HasNoFeed open
+  pub clear : HasNoFeed tail
   pub lines_are : whole ≡ lines front
 
 -- no line, or an import with lines of its body, which has no end yet
@@ -131,7 +131,7 @@ pub record IsPlayedSoFar (taken text : List ℕ) : Type 0 where
   pub are : AllByRecursion IsEntry entries
   pub more : List (List ℕ)
   pub holds : Holds taken (script_lines entries ++ more)
-  pub open : IsOpen more
+  pub waits : IsOpen more
   pub plays : IsPlayOf entries text
 
 -- this is what was written by the time that so much of the input was left

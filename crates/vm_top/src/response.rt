@@ -23,17 +23,24 @@ pub enum Response {
         skipped: u64,
     },
     /// A run was begun.
-    Begun { run: u64 },
+    Begun {
+        run: u64,
+    },
     /// A run read one series.
     Read,
     /// A run has no series left to read.
     Complete,
     /// A run was ended: the values of its question, at a time in ms.
-    Values { time: u64, values: List<Valued> },
+    Values {
+        time: u64,
+        values: List<Valued>,
+    },
     /// A run was closed.
     Closed,
     /// It was refused.
-    Refused { why: Refusal },
+    Refused {
+        why: Refusal,
+    },
 }
 
 /// Writes what a command answered. Where there is no memory for a reply it writes the line that says so; no other

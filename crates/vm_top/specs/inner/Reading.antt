@@ -35,7 +35,7 @@ pub record HasLine (step : Step) (before after : Place) (left_before left_after 
   pub first : IsFirstLine (unread before left_before) line (unread after left_after)
   pub counted : after.number ≡ before.number + 1
   pub nearer : to_go after.reading < to_go before.reading
-  pub open : before.reading.ended ≡ false
+  pub unended : before.reading.ended ≡ false
 
 -- the input's end was come to
 pub record IsAtEnd (before after : Place) (left_before left_after : Option (List ℕ)) : Type 0 where
@@ -69,4 +69,4 @@ pub record StopsAt (before : Place) (left_before left_after : Option (List ℕ))
   pub piece : List ℕ
   pub gives : Gives left_before piece left_after
   pub clear : HasNoFeed (before.reading.ahead ++ piece)
-  pub open : before.reading.ended ≡ false
+  pub unended : before.reading.ended ≡ false
