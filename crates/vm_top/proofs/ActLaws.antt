@@ -1,5 +1,5 @@
 -- What a machine answers, and what is printed of it.
-use Rattle.std.proofs.Common.{◌≡◌, ℕ, List, [], length, map, append-nil, Option, Some, None, Result, Ok, Err, IfOk, true, false, refl, sym, ap, ◌∙◌, subst, inl, inr}
+use Rattle.std.proofs.Common.{◌≡◌, ℕ, List, [], length, map, append-nil, Option, Some, None, Result, Ok, Err, IfOk, OnErr, true, false, refl, sym, ap, ◌∙◌, subst, inl, inr}
 use Rattle.std.specs.Option.{is_some}
 use Rattle.std.specs.Result.{is_ok, IsErrAnd}
 use Rattle.vm_labels.specs.declared.row.Batch.{Batch}
@@ -72,6 +72,11 @@ refused_body body passed before now all why text gathers is refuses line =
     let these : all ≡ batches body.format body.time passed = is ∙ sym (gathers.batches []) ∙ ap batches_of (append-nil (map (λ line. or_none (format_rows body.format body.time line)) passed)) in
     subst (λ t. Imports body.format body.time passed before now t) (sym line)
     (one_refused now why (subst (λ list. Refuses before list now why) these refuses))
+
+-- what holds in any case holds where there is an error
+pub on_err : {A E P : Type 0} (result : Result A E) → P → OnErr result P
+on_err (Ok a) p = tt
+on_err (Err e) p = p
 
 -- what holds of an error holds of a result that is this error
 pub at_err : {A E : Type 0} (X : Result A E → Type 0) (result : Result A E) (e : E) → IsErrAnd result (λ f. f ≡ e) → X (Err e) → X result

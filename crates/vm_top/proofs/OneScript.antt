@@ -71,6 +71,9 @@ body_same (Run run) b d has_b has_d same = has_b ∙ sym has_d
 body_same (End run) b d has_b has_d same = has_b ∙ sym has_d
 body_same (Close run) b d has_b has_d same = has_b ∙ sym has_d
 
+abbrev entry_of : List ℕ → Command → List (List ℕ) → Entry
+entry_of line command body = record { line = line; command = command; body = body }
+
 command_same : (e f : Entry) → IsEntry e → IsEntry f → entry_lines e ≡ entry_lines f → e ≡ f
 command_same e f is_e is_f same =
     let line = head_same e.line f.line (lines_after e.command e.body) (lines_after f.command f.body) same in
@@ -78,14 +81,9 @@ command_same e f is_e is_f same =
     let more = ap (λ c. lines_after c e.body) (sym command)
     ∙ tail_same e.line f.line (lines_after e.command e.body) (lines_after f.command f.body) same in
     let body = body_same f.command e.body f.body (subst (λ c. HasBody c e.body) command is_e.body) is_f.body more in
-    made line command body
-  where
-    made : {l k : List ℕ} {c d : Command} {a b : List (List ℕ)} → l ≡ k → c ≡ d → a ≡ b
-        → record { line = l; command = c; body = a } ≡ record { line = k; command = d; body = b }
-    made {l} {k} {c} {d} {a} {b} line command body =
-        ap (λ x. record { line = x; command = c; body = a }) line
-        ∙ ap (λ x. record { line = k; command = x; body = a }) command
-        ∙ ap (λ x. record { line = k; command = d; body = x }) body
+    ap (λ line. entry_of line e.command e.body) line
+    ∙ ap (λ command. entry_of f.line command e.body) command
+    ∙ ap (λ body. entry_of f.line f.command body) body
 
 -- the same lines are the same commands
 one_list : (es fs : List Entry) → AllByRecursion IsEntry es → AllByRecursion IsEntry fs → script_lines es ≡ script_lines fs → es ≡ fs
@@ -120,11 +118,26 @@ same_answers run event mid m n s t one two held_s held_t =
     ∙ sym (own_answer mid event n two.answer two.steps (λ is. held_t (two.text_is ∙ ap (printed run) is))) in
     (ap (λ pair. pair.0) both, one.text_is ∙ ap (λ pair. printed run pair.1) both ∙ sym two.text_is)
 
+-- a batch comes, and finds no room or some
+abbrev came : Bool → State → Batch → State × Result Answer Refusal
+came full state batch =
+    cond full (state, Err PendingFull) (record state { accepted = state.accepted ++ batch ∷ [] }, Ok accepted)
+
+-- why something was refused, where it was
+why_of : Result Answer Refusal → Refusal
+why_of (Ok answer) = Memory
+why_of (Err why) = why
+
 -- batches that come one after the other, up to the first that finds no room
 import_all : State → List Batch → State × Result Answer Refusal
 import_all state [] = (state, Ok accepted)
 import_all state (batch ∷ more) =
     cond (is_full state batch) (state, Err PendingFull) (import_all (record state { accepted = state.accepted ++ batch ∷ [] }) more)
+
+-- it came with others after it
+abbrev went : Bool → State → Batch → List Batch → State × Result Answer Refusal
+went full state batch more =
+    cond full (state, Err PendingFull) (import_all (record state { accepted = state.accepted ++ batch ∷ [] }) more)
 
 accepts_are : (before : State) (list : List Batch) (now : State) → Accepts before list now
     → (more : List Batch) → import_all before (list ++ more) ≡ import_all now more
@@ -134,8 +147,8 @@ accepts_are _ _ _ (next_batch before mid now list batch accepts steps) more =
     ∙ accepts_are before list mid accepts (batch ∷ more)
     ∙ go (is_full mid batch) steps
   where
-    go : (full : Bool) → (now, Ok accepted) ≡ cond full (mid, Err PendingFull) (record mid { accepted = mid.accepted ++ batch ∷ [] }, Ok accepted)
-        → cond full (mid, Err PendingFull) (import_all (record mid { accepted = mid.accepted ++ batch ∷ [] }) more) ≡ import_all now more
+    go : (full : Bool) → (now, Ok accepted) ≡ came full mid batch
+        → went full mid batch more ≡ import_all now more
     go true is = let no = ap (λ pair. pair.1) is in absurd cc
     go false is = ap (λ state. import_all state more) (sym (ap (λ pair. pair.0) is))
 
@@ -148,16 +161,10 @@ refuses_are before list now why refuses held =
     ap (import_all before) refuses.are
     ∙ accepts_are before refuses.first refuses.mid refuses.accepts (refuses.batch ∷ refuses.more)
     ∙ go (is_full refuses.mid refuses.batch)
-    (own_answer refuses.mid (import refuses.batch) now (Err why) refuses.steps (λ is. held (some_error is)))
+    (own_answer refuses.mid (import refuses.batch) now (Err why) refuses.steps (λ is. held (ap why_of is)))
   where
-    some_error : {x y : Refusal} → Err {T = Answer} x ≡ Err y → x ≡ y
-    some_error is = cc
-
-    next : State
-    next = record refuses.mid { accepted = refuses.mid.accepted ++ refuses.batch ∷ [] }
-
-    go : (full : Bool) → (now, Err why) ≡ cond full (refuses.mid, Err PendingFull) (next, Ok accepted)
-        → cond full (refuses.mid, Err PendingFull) (import_all next refuses.more) ≡ (now, Err why)
+    go : (full : Bool) → (now, Err why) ≡ came full refuses.mid refuses.batch
+        → went full refuses.mid refuses.batch refuses.more ≡ (now, Err why)
     go true is = sym is
     go false is = let no = ap (λ pair. pair.1) is in absurd cc
 

@@ -219,7 +219,7 @@ gave_up machine p (Some input) (Some bytes) before after played over unended =
       waits = tt;
       plays = (machine, played.plays);
     } in
-    (played.texts, (p.reading.ahead ++ bytes, taken.taken, taken.parts, so_far), played.written)
+    (played.texts, (p.reading.ahead ++ bytes, (taken.taken, taken.parts, so_far)), played.written)
 
 -- a line is outside the grammar
 pub ends_bad : (step : Step) (machine : State) (p q : Place) (start left_p left_q left_after before after : Option (List ℕ)) (number : ℕ)
@@ -292,7 +292,7 @@ stopped_none (Some input) before =
       waits = tt;
       plays = (blank, no_command);
     } in
-    ([], (input, [], refl, so_far), takes_nothing before)
+    ([], (input, ([], refl, so_far)), takes_nothing before)
 
 -- an input that is too long
 long_at : (start left_after before after : Option (List ℕ)) → Told start IsTooLong

@@ -82,8 +82,8 @@ over_step step before after left_before left_after through moves goes stays = re
 -- no line more
 
 pub open_of : (ended : Bool) → (ended ≡ true → ⊥) → ended ≡ false
-open_of true no = absurd (no refl)
-open_of false no = refl
+open_of true never = absurd (never refl)
+open_of false never = refl
 
 pub stops_of : (fault : LineFault) (before after : Place) (left_before left_after : Option (List ℕ)) (through : List ℕ)
     → Moves before.reading after.reading left_before left_after through

@@ -117,3 +117,13 @@ returns-clause-ends g c =
     (takes_more first_place c.lines.lines c.advance.new.self (left c.args.input.now) (left c.lines.input)
     (left c.advance.new.input) c.lines.invariant.takes c.in_ok-step.ensures.takes) refl end.spent end.few)
     (left c.advance.new.input)
+
+-- a line more was read
+pub lines-smaller : goal.lines-smaller
+lines-smaller g c =
+    let left = g.S.Source.left in
+    let has : HasLine c.in-Some.step c.lines.lines c.advance.new.self (left c.lines.input) (left c.advance.new.input) =
+    subst (λ s. Comes s c.lines.lines c.advance.new.self (left c.lines.input) (left c.advance.new.input)) c.in-Some.is c.in_ok-step.ensures.comes in
+    let writes = c.in_ok-write_response.ensures.writes in
+    let plays = c.in_ok-response.ensures.plays has.line has.is writes.0 writes.1 in
+    omega (arith, has.nearer, plays.plays.passes.nearer)

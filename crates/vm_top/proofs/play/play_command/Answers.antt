@@ -3,6 +3,7 @@ use Rattle.vm_machine.specs.Machine.{begin}
 use Rattle.vm_top.specs.Replay.{Answers, question_of}
 use Rattle.vm_top.specs.inner.Playing.{PlaysCommand}
 use Rattle.vm_top.proofs.PlayLaws.{passes_none}
+use Rattle.vm_top.proofs.TakenLaws.{over_none}
 use Rattle.vm_top.proofs.play.play_command.Goals as goal
 
 pub returns-in-Query-clause-plays : goal.returns-in-Query-clause-plays
@@ -19,3 +20,17 @@ returns-in-Query-clause-plays g c = λ text prints.
           c.as_str.ensures (c.begin_query.ensures.answers text prints);
       passes = passes_none lines left;
     })
+
+-- no line was read
+
+pub returns-in-Query-clause-over : goal.returns-in-Query-clause-over
+returns-in-Query-clause-over g c = over_none c.args.lines.now (g.S.Source.left c.args.input.now)
+
+pub returns-in-Run-clause-over : goal.returns-in-Run-clause-over
+returns-in-Run-clause-over g c = over_none c.args.lines.now (g.S.Source.left c.args.input.now)
+
+pub returns-in-End-clause-over : goal.returns-in-End-clause-over
+returns-in-End-clause-over g c = over_none c.args.lines.now (g.S.Source.left c.args.input.now)
+
+pub returns-in-Close-clause-over : goal.returns-in-Close-clause-over
+returns-in-Close-clause-over g c = over_none c.args.lines.now (g.S.Source.left c.args.input.now)
