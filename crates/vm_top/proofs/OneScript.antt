@@ -141,6 +141,7 @@ went full state batch more =
 
 accepts_are : (before : State) (list : List Batch) (now : State) → Accepts before list now
     → (more : List Batch) → import_all before (list ++ more) ≡ import_all now more
+unfolding import_all
 accepts_are _ _ _ (no_batch state) more = refl
 accepts_are _ _ _ (next_batch before mid now list batch accepts steps) more =
     ap (import_all before) (append_assoc list (batch ∷ []) more)
@@ -153,10 +154,12 @@ accepts_are _ _ _ (next_batch before mid now list batch accepts steps) more =
     go false is = ap (λ state. import_all state more) (sym (ap (λ pair. pair.0) is))
 
 accepts_all : (before : State) (list : List Batch) (now : State) → Accepts before list now → import_all before list ≡ (now, Ok accepted)
+unfolding import_all
 accepts_all before list now accepts = ap (import_all before) (sym (append-nil list)) ∙ accepts_are before list now accepts []
 
 refuses_are : (before : State) (list : List Batch) (now : State) (why : Refusal) → Refuses before list now why
     → (why ≡ Memory → ⊥) → import_all before list ≡ (now, Err why)
+unfolding import_all
 refuses_are before list now why refuses held =
     ap (import_all before) refuses.are
     ∙ accepts_are before refuses.first refuses.mid refuses.accepts (refuses.batch ∷ refuses.more)
