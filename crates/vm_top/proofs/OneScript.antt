@@ -124,7 +124,7 @@ came full state batch =
     cond full (state, Err PendingFull) (record state { accepted = state.accepted ++ batch ∷ [] }, Ok accepted)
 
 -- why something was refused, where it was
-why_of : Result Answer Refusal → Refusal
+abbrev why_of : Result Answer Refusal → Refusal
 why_of (Ok answer) = Memory
 why_of (Err why) = why
 
