@@ -1,4 +1,4 @@
--- The first of faults that stand one behind the other.
+-- The first of faults that stand one after the other.
 use Rattle.std.proofs.Common.{◌≡◌, Bool, Option, List, [], ◌∷◌, ◌++◌, Ok, Err, refl, ap, ◌∙◌}
 use Rattle.mql_lex.specs.declared.group.Matching.{Matching}
 use Rattle.mql_lex.specs.declared.operator.Op.{Op}
@@ -22,7 +22,7 @@ stops (g ∷ fs) b f first = first
 
 pub ruleset in_order = (goes_on, stops)
 
--- behind parts without a fault the first is that of the expression itself, or of what is left of it
+-- after parts without a fault the first is that of the expression itself, or of what is left of it
 pub ranged_goes_on : (e inner : Expr) (window offset : Option Span) (u : Unit {0}) → e.node ≡ Ranged inner window offset → first_fault (faults (tree inner)) ≡ Ok u
     → first_fault (faults (tree e)) ≡ first_fault (wrong_unless (is_select (tree inner)) e.at)
 ranged_goes_on e inner window offset u is ok =

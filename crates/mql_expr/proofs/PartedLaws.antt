@@ -22,7 +22,7 @@ suc_apart n = grind (arith, nat_tests)
 pub text_of-append : (a b : List Piece) → text_of (a ++ b) ≡ text_of a ++ text_of b
 text_of-append a b = flat_map-append piece_text a b
 
--- each of these behind something
+-- each of these after something
 pub behind_text : {X : Type 0} (between : List Piece) (f : X → List Piece) (xs : List X)
     → text_of (flat_map (λ y. between ++ y) (map f xs)) ≡ flat_map (λ x. text_of between ++ text_of (f x)) xs
 behind_text between f [] = refl
@@ -39,12 +39,12 @@ parted_front between f (y ∷ ys) x some is =
     ∙ ap (λ t. text_of (f y) ++ t) (behind_text between f ys)
     ∙ ap (λ z. text_of (f z) ++ flat_map (λ p. text_of between ++ text_of (f p)) ys) (sym is)
 
--- the first, and each other behind something
+-- the first, and each other after something
 pub parted_text : {X : Type 0} (between : List Piece) (f : X → List Piece) (xs : List X) (x : X) → 1 ≤ length xs → x ≡ get_or xs 0 x
     → text_of (parted between (map f xs)) ≡ text_of (f x) ++ flat_map (λ y. text_of between ++ text_of (f y)) (take (length xs - 1) (drop 1 xs))
 parted_text between f xs x some is = rw take_rest (parted_front between f xs x some is)
 
--- what is put behind two pieces of text
+-- what is put after two pieces of text
 pub put_two : (old first second a b whole : List ℕ) → first ≡ old ++ a → second ≡ first ++ b → whole ≡ a ++ b → second ≡ old ++ whole
 put_two old first second a b whole p q w = q ∙ ap (λ t. t ++ b) p ∙ append_assoc old a b ∙ ap (λ t. old ++ t) (sym w)
 
@@ -71,14 +71,14 @@ params_text (p ∷ ps) first some is =
     wrapped_text 40 (parted (mark (codes ",") ∷ []) (map (λ q. named q.name ∷ []) (p ∷ ps))) 41
     ∙ ap (λ t. 40 ∷ (t ++ 41 ∷ [])) (simp append-nil at (parted_text (mark (codes ",") ∷ []) (λ q. named q.name ∷ []) (p ∷ ps) first some is))
 
--- four pieces of text, one behind the other
+-- four pieces of text, one after the other
 pub put_four : (old one two three four a b c d whole : List ℕ) → one ≡ old ++ a → two ≡ one ++ b → three ≡ two ++ c → four ≡ three ++ d
     → whole ≡ a ++ ((b ++ c) ++ d) → four ≡ old ++ whole
 put_four old one two three four a b c d whole p q r s w =
     let same : (((old ++ a) ++ b) ++ c) ++ d ≡ old ++ (a ++ ((b ++ c) ++ d)) = simp append_assoc in
     s ∙ ap (λ t. t ++ d) (r ∙ ap (λ t. t ++ c) (q ∙ ap (λ t. t ++ b) p)) ∙ same ∙ ap (λ t. old ++ t) (sym w)
 
--- one more, which stands behind a comma where it isn't the first
+-- one more, which stands after a comma where it isn't the first
 pub parted_push : (between : List Piece) (xs : List (List Piece)) (y : List Piece)
     → text_of (parted between (xs ++ y ∷ [])) ≡ text_of (parted between xs) ++ ((if length xs == 0 then [] else text_of between) ++ text_of y)
 parted_push between [] y = text_of-append y [] ∙ append-nil (text_of y)
@@ -122,7 +122,7 @@ bindings_of [] = refl
 bindings_of (t ∷ ts) =
     ap (λ u. binding u.name u.params (placed 1 u.body) ∷ bindings (templates_in ts)) (template_is t) ∙ ap (λ ps. binding_of t ∷ ps) (bindings_of ts)
 
--- all of them, and the parenthesis behind them
+-- all of them, and the parenthesis after them
 pub inside_text : {X : Type 0} (f : X → List Piece) (old one two : List ℕ) (xs : List X) (i : ℕ) (parts : List (List Piece)) → length xs ≤ i → parts ≡ map f xs
     → one ≡ old ++ 40 ∷ text_of (parted comma (map f (take i xs))) → two ≡ one ++ 41 ∷ [] → two ≡ old ++ text_of (in_parentheses parts)
 inside_text f old one two xs i parts low same so_far put =

@@ -9,7 +9,7 @@ use Rattle.mql_expr.specs.Tree.{next_tree, next_template, ranged, binary, with_t
 use Rattle.mql_expr.specs.declared.expr.Expr.{Expr, the_lemmas}
 use Rattle.mql_expr.specs.declared.expr.Template.{Template}
 
--- what is left at an index is the argument there and what is left behind it
+-- what is left at an index is the argument there and what is left after it
 pub next_at : (exprs : List Expr) (i : ℕ) (x : Expr) → i < length exprs → x ≡ get_or exprs i x
     → trees_in (drop i exprs) ≡ next_tree (tree x) (trees_in (drop (i + 1) exprs))
 next_at exprs i x low is =

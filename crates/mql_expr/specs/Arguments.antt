@@ -35,12 +35,13 @@ function_kinds LabelJoin = Series ∷ LabelName ∷ Quoted ∷ LabelName ∷ []
 function_kinds LabelReplace = Series ∷ LabelName ∷ Quoted ∷ LabelName ∷ Quoted ∷ []
 function_kinds _ = Series ∷ []
 
+-- the arguments that a call begins with
 abbrev pub first_kinds : Known → List Kind
 first_kinds (OfWindow rollup) = Selector ∷ []
 first_kinds (OfGroup aggregate) = aggregate_kinds aggregate
 first_kinds (OfPoints function) = function_kinds function
 
--- the arguments that it may have behind these
+-- the arguments that a call of a function may have after these
 abbrev pub function_rest : Function → Rest
 function_rest Round = Perhaps Positive
 function_rest LabelSet = Pairs LabelName Quoted
@@ -51,6 +52,7 @@ function_rest LabelJoin = Each LabelName
 function_rest Union = Each Series
 function_rest _ = Nothing
 
+-- the arguments that it may have after these
 abbrev pub rest_of : Known → Rest
 rest_of (OfPoints function) = function_rest function
 rest_of _ = Nothing
@@ -67,6 +69,7 @@ abbrev pub kind_at : List Kind → Rest → ℕ → Option Kind
 kind_at first rest index =
     if nat_lt index (length first) then slice_get first index else rest_kind rest (index - length first)
 
+-- whether so many of these are whole pairs, where they come in pairs
 abbrev pub are_whole : Rest → ℕ → Bool
 are_whole (Pairs one other) count = count % 2 == 0
 are_whole _ count = true
@@ -76,7 +79,7 @@ abbrev pub may_end : List Kind → Rest → ℕ → Bool
 may_end first rest count =
     nat_le (length first) count && are_whole rest (count - length first)
 
--- Whether the lines of a result keep the metric's name without `keep_metric_names`.
+-- whether the lines of a result keep the metric's name without `keep_metric_names`
 abbrev pub rollup_keeps : Rollup → Bool
 rollup_keeps DefaultRollup = true
 rollup_keeps LastOverTime = true
@@ -86,6 +89,7 @@ rollup_keeps MaxOverTime = true
 rollup_keeps AvgOverTime = true
 rollup_keeps _ = false
 
+-- the same of a function over points or labels
 abbrev pub function_keeps : Function → Bool
 function_keeps Abs = false
 function_keeps Sgn = false
@@ -94,6 +98,7 @@ function_keeps Time = false
 function_keeps Absent = false
 function_keeps _ = true
 
+-- the same of any function or aggregate
 abbrev pub keeps_name : Known → Bool
 keeps_name (OfWindow rollup) = rollup_keeps rollup
 keeps_name (OfGroup aggregate) = false

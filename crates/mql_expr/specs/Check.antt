@@ -14,6 +14,7 @@ use Rattle.mql_expr.specs.declared.fault.CheckFault.TheVariants.{UnknownFunction
 use Rattle.mql_expr.specs.declared.names.Known.{Known}
 use Rattle.mql_expr.specs.declared.names.Known.TheVariants.{OfGroup}
 
+-- how many arguments these are
 abbrev pub count_of : Trees → ℕ
 count_of no_trees = 0
 count_of (next_tree tree trees) = suc (count_of trees)
@@ -28,18 +29,21 @@ abbrev pub may_be_from : Known → ℕ → Trees → Bool
 may_be_from known index no_trees = true
 may_be_from known index (next_tree tree trees) = may_be known index tree && may_be_from known (suc index) trees
 
+-- whether a call may have these arguments
 abbrev pub arguments_fit : Known → Trees → Bool
 arguments_fit known args =
     may_end (first_kinds known) (rest_of known) (count_of args) && may_be_from known 0 args
 
--- A group stands on an aggregate alone, and one at most; `keep_metric_names` doesn't stand there.
+-- Only an aggregate has a group, and one at most. It has no `keep_metric_names`.
 abbrev pub words_fit : Known → (before after : Option Group) → (keep : Bool) → Bool
 words_fit (OfGroup aggregate) before after keep = not (is_some before && is_some after) && not keep
 words_fit _ before after keep = not (is_some before || is_some after)
 
+-- whether a call may have these arguments, groups and `keep_metric_names`
 abbrev pub call_fits : Known → Trees → (before after : Option Group) → (keep : Bool) → Bool
 call_fits known args before after keep = arguments_fit known args && words_fit known before after keep
 
+-- no fault where it fits, else `WrongArguments` at this place
 abbrev pub wrong_unless : Bool → ℕ → List CheckFault
 wrong_unless fits at = if fits then [] else WrongArguments at ∷ []
 
@@ -49,11 +53,12 @@ call_faults None at args before after keep = UnknownFunction at ∷ []
 call_faults (Some known) at args before after keep =
     wrong_unless (call_fits known args before after keep) at
 
--- `group_left` and `group_right` stand on arithmetic and comparisons alone.
+-- Only arithmetic and comparisons have `group_left` or `group_right`.
 abbrev pub many_fits : Op → Many → Bool
 many_fits op One = true
 many_fits op _ = is_of_numbers op
 
+-- whether an operator may have these operands, and `group_left` or `group_right` where it has one
 abbrev pub operands_fit : Op → Many → (left right : Tree) → Bool
 operands_fit op many left right = not (is_string left) && not (is_string right) && many_fits op many
 
@@ -72,10 +77,12 @@ abbrev mutual
   faults (negate at inner) = faults inner ++ wrong_unless (not (is_string inner)) at
   faults (with_templates at bindings body) = template_faults bindings ++ faults body
 
+  -- those of arguments
   pub faults_of : Trees → List CheckFault
   faults_of no_trees = []
   faults_of (next_tree tree trees) = faults tree ++ faults_of trees
 
+  -- those of templates
   pub template_faults : Templates → List CheckFault
   template_faults no_templates = []
   template_faults (next_template at name params body more) = faults body ++ template_faults more
@@ -85,6 +92,7 @@ abbrev pub whole_faults : Tree → List CheckFault
 whole_faults (string at text) = WrongArguments at ∷ []
 whole_faults _ = []
 
+-- all faults of a query
 abbrev pub query_faults : Tree → List CheckFault
 query_faults tree = faults tree ++ whole_faults tree
 

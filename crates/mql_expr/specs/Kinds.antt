@@ -15,6 +15,7 @@ use Rattle.mql_expr.specs.declared.names.Function.TheVariants.{Abs, Sgn, Ceil, F
 use Rattle.mql_expr.specs.declared.names.Known.{Known}
 use Rattle.mql_expr.specs.declared.names.Known.TheVariants.{OfPoints}
 
+-- a string
 abbrev pub is_string : Tree → Bool
 is_string (string at text) = true
 is_string _ = false
@@ -24,6 +25,7 @@ abbrev pub is_select : Tree → Bool
 is_select (select at name lists) = true
 is_select _ = false
 
+-- a selector, with a window and an offset or without
 abbrev pub is_selector : Tree → Bool
 is_selector (ranged at inner window offset) = is_select inner
 is_selector t = is_select t
@@ -33,6 +35,7 @@ abbrev pub is_label_name : Tree → Bool
 is_label_name (string at text) = is_name text
 is_label_name _ = false
 
+-- whether there is a limit and a number is below it
 abbrev pub is_below : ℤ → Option ℤ → Bool
 is_below z limit = option_map_or (λ most. int_lt z most) limit false
 
@@ -40,10 +43,12 @@ is_below z limit = option_map_or (λ most. int_lt z most) limit false
 abbrev pub counts : ℤ → Bool
 counts z = not (int_lt z (pos 0)) && int_eq (floor_of z) z && is_below z (dec_of (pos 4294967296) (pos 0))
 
+-- a written whole number below 2^32
 abbrev pub is_count : Tree → Bool
 is_count (number at z) = counts z
 is_count _ = false
 
+-- a written number above 0
 abbrev pub is_positive : Tree → Bool
 is_positive (number at z) = int_lt (pos 0) z
 is_positive _ = false
@@ -58,7 +63,7 @@ is_of_numbers And = false
 is_of_numbers Unless = false
 is_of_numbers _ = true
 
--- Whether a call is of numbers alone, where its arguments are or aren't.
+-- Whether a call is of numbers alone. `arguments_are` says whether its arguments are.
 abbrev pub is_number_call : Option Known → (arguments_are : Bool) → Bool
 is_number_call (Some (OfPoints Time)) arguments_are = true
 is_number_call (Some (OfPoints Scalar)) arguments_are = true
@@ -84,10 +89,12 @@ abbrev mutual
   is_numeric (negate at inner) = is_numeric inner
   is_numeric (with_templates at bindings body) = false
 
+  -- whether all arguments are
   pub are_numeric : Trees → Bool
   are_numeric no_trees = true
   are_numeric (next_tree tree trees) = is_numeric tree && are_numeric trees
 
+-- whether an expression may be an argument of this kind
 abbrev pub is_of_kind : Kind → Tree → Bool
 is_of_kind Series tree = not (is_string tree)
 is_of_kind Selector tree = is_selector tree

@@ -4,6 +4,7 @@ use Rattle.mql_lex.specs.declared.operator.Op.{Op}
 use Rattle.mql_lex.specs.declared.operator.Op.TheVariants.{Default, If, IfNot, Or, And, Unless, Equal, Differs, AtMost, AtLeast, Below, Above, Add, Sub, Mul, Div, Rem}
 use Rattle.mql_expr.specs.Tree.{Tree, number, string, select, ranged, call, binary, negate, with_templates}
 
+-- the level of an operator, from 1, the loosest, to 7
 abbrev pub level_of_op : Op → ℕ
 level_of_op Default = 1
 level_of_op If = 2

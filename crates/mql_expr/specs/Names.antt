@@ -10,6 +10,7 @@ use Rattle.mql_expr.specs.declared.names.Function.TheVariants.{Abs, Sgn, Ceil, F
 use Rattle.mql_expr.specs.declared.names.Known.{Known}
 use Rattle.mql_expr.specs.declared.names.Known.TheVariants.{OfWindow, OfGroup, OfPoints}
 
+-- the name of a function over the samples in a window, in lower case
 abbrev pub rollup_name : Rollup → List ℕ
 rollup_name DefaultRollup = codes "default_rollup"
 rollup_name LastOverTime = codes "last_over_time"
@@ -38,6 +39,7 @@ rollup_name TlastOverTime = codes "tlast_over_time"
 rollup_name TminOverTime = codes "tmin_over_time"
 rollup_name TmaxOverTime = codes "tmax_over_time"
 
+-- the name of an aggregate, in lower case
 abbrev pub aggregate_name : Aggregate → List ℕ
 aggregate_name Sum = codes "sum"
 aggregate_name Min = codes "min"
@@ -51,6 +53,7 @@ aggregate_name Bottomk = codes "bottomk"
 aggregate_name Limitk = codes "limitk"
 aggregate_name CountValues = codes "count_values"
 
+-- the name of a function over points or labels, in lower case
 abbrev pub function_name : Function → List ℕ
 function_name Abs = codes "abs"
 function_name Sgn = codes "sgn"
@@ -74,26 +77,32 @@ function_name Union = codes "union"
 function_name Sort = codes "sort"
 function_name SortDesc = codes "sort_desc"
 
+-- the name of any of these
 abbrev pub name_of : Known → List ℕ
 name_of (OfWindow rollup) = rollup_name rollup
 name_of (OfGroup aggregate) = aggregate_name aggregate
 name_of (OfPoints function) = function_name function
 
+-- all functions over the samples in a window
 abbrev pub rollups : List Rollup
 rollups =
     DefaultRollup ∷ LastOverTime ∷ FirstOverTime ∷ MinOverTime ∷ MaxOverTime ∷ AvgOverTime ∷ SumOverTime ∷ CountOverTime ∷ DistinctOverTime ∷ PresentOverTime ∷ RangeOverTime ∷ Changes ∷ Resets ∷ Delta ∷ Increase ∷ Rate ∷ DerivFast ∷ Idelta ∷ Ideriv ∷ Irate ∷ Lag ∷ Lifetime ∷ TfirstOverTime ∷ TlastOverTime ∷ TminOverTime ∷ TmaxOverTime ∷ []
 
+-- all aggregates
 abbrev pub aggregates : List Aggregate
 aggregates =
     Sum ∷ Min ∷ Max ∷ Count ∷ Avg ∷ Group ∷ Any ∷ Topk ∷ Bottomk ∷ Limitk ∷ CountValues ∷ []
 
+-- all functions over points or labels
 abbrev pub functions : List Function
 functions =
     Abs ∷ Sgn ∷ Ceil ∷ Floor ∷ Round ∷ Clamp ∷ ClampMin ∷ ClampMax ∷ Scalar ∷ Vector ∷ Time ∷ Absent ∷ LabelSet ∷ LabelDel ∷ LabelKeep ∷ LabelCopy ∷ LabelJoin ∷ LabelReplace ∷ Union ∷ Sort ∷ SortDesc ∷ []
 
+-- all of these
 abbrev pub all_known : List Known
 all_known = map OfWindow rollups ++ map OfGroup aggregates ++ map OfPoints functions
 
+-- whether it has this name, without regard to ASCII case
 abbrev pub has_name : Known → List ℕ → Bool
 has_name known name = str_eq_ignore_ascii_case (name_of known) name
 

@@ -13,6 +13,7 @@ unit_ms Minute = 60000
 unit_ms Second = 1000
 unit_ms Millisecond = 1
 
+-- how a unit is written
 abbrev pub unit_text : UnitOf → List ℕ
 unit_text Day = codes "d"
 unit_text Hour = codes "h"
@@ -24,7 +25,7 @@ unit_text Millisecond = codes "ms"
 abbrev pub is_whole : ℕ → UnitOf → Bool
 is_whole ms unit = ms % unit_ms unit == 0
 
--- the greatest unit of which they are
+-- the greatest unit of which they are whole ones
 abbrev pub greatest_unit : ℕ → UnitOf
 greatest_unit ms =
     if is_whole ms Day then Day else if is_whole ms Hour then Hour
@@ -34,6 +35,7 @@ greatest_unit ms =
 abbrev pub count_text : ℕ → List ℕ → List ℕ
 count_text count unit = if count == 0 then [] else decimal count ++ unit
 
+-- so many milliseconds in that unit
 abbrev pub ms_text : ℕ → List ℕ
 ms_text ms = count_text (ms / unit_ms (greatest_unit ms)) (unit_text (greatest_unit ms))
 
@@ -42,8 +44,10 @@ abbrev pub size_text : (ms steps : ℕ) → List ℕ
 size_text ms steps =
     if ms == 0 && steps == 0 then codes "0s" else ms_text ms ++ count_text steps (codes "i")
 
+-- whether a span is below zero
 abbrev pub is_negative : Span → Bool
 is_negative span = int_lt span.ms (pos 0) || int_lt span.steps (pos 0)
 
+-- a span without its sign
 abbrev pub span_text : Span → List ℕ
 span_text span = size_text (unsigned_abs span.ms) (unsigned_abs span.steps)

@@ -12,6 +12,7 @@ use Rattle.mql_expr.specs.declared.expr.Expr.{Expr, fold-Expr}
 use Rattle.mql_expr.specs.declared.expr.Node.TheOpen.{Node-F, Template-F}
 
 mutual
+  -- an expression
   pub data Tree : Type 0 where
     number : (at : ℕ) → ℤ → Tree
     string : (at : ℕ) → List ℕ → Tree
@@ -27,10 +28,12 @@ mutual
     no_trees : Trees
     next_tree : Tree → Trees → Trees
 
+  -- the templates of a `with`
   pub data Templates : Type 0 where
     no_templates : Templates
     next_template : (at : ℕ) → (name : List ℕ) → (params : List Param) → (body : Tree) → Templates → Templates
 
+-- trees as the arguments of a call
 abbrev pub trees_of : List Tree → Trees
 trees_of [] = no_trees
 trees_of (t ∷ ts) = next_tree t (trees_of ts)
@@ -42,6 +45,7 @@ pub record TreeTemplate : Type 0 where
   pub params : List Param
   pub body : Tree
 
+-- such templates as those of a `with`
 abbrev pub templates_listed : List TreeTemplate → Templates
 templates_listed [] = no_templates
 templates_listed (t ∷ ts) = next_template t.at t.name t.params t.body (templates_listed ts)
@@ -57,12 +61,15 @@ node_tree (Node-F.Binary op truth matching left right) at = binary at op truth m
 node_tree (Node-F.Negate inner) at = negate at inner
 node_tree (Node-F.With templates body) at = with_templates at (templates_listed templates) body
 
+-- the same of a template
 abbrev pub template_tree : Template-F (ℕ → Tree) Tree TreeTemplate → TreeTemplate
 template_tree t = record { at = t.at; name = t.name; params = t.params; body = t.body }
 
+-- an expression as a tree
 abbrev pub tree : Expr → Tree
 tree = fold-Expr (ℕ → Tree) Tree TreeTemplate node_tree (λ e. e.node e.at) template_tree
 
+-- expressions as the arguments of a call
 abbrev pub trees_in : List Expr → Trees
 trees_in exprs = trees_of (map tree exprs)
 
@@ -70,5 +77,6 @@ trees_in exprs = trees_of (map tree exprs)
 abbrev pub template : Template → TreeTemplate
 template = fold-Template (ℕ → Tree) Tree TreeTemplate node_tree (λ e. e.node e.at) template_tree
 
+-- templates as those of a `with`
 abbrev pub templates_in : List Template → Templates
 templates_in ts = templates_listed (map template ts)

@@ -24,9 +24,10 @@ pub enum Kind {
     Numeric,
 }
 
-/// What arguments may stand behind the first.
+/// What arguments may stand after the first.
 #[derive(Clone, Copy, Debug, PartialEq, Eq)]
 pub enum Rest {
+    /// No more.
     Nothing,
     /// One or none.
     Perhaps(Kind),
@@ -48,7 +49,7 @@ impl Known {
         }
     }
 
-    /// The arguments that may stand behind these.
+    /// The arguments that may stand after these.
     pub fn rest(self) -> Rest
         ensures { result ≡ rest_of self }
     {

@@ -11,6 +11,7 @@ use vm_base::{Boxed, List, Text};
 use vm_decimal::Dec;
 
 impl Expr {
+    /// A number.
     pub fn number(at: u64, value: Dec) -> Expr
         ensures { tree result ≡ number at value }
     {
@@ -20,6 +21,7 @@ impl Expr {
         }
     }
 
+    /// A string with this value.
     pub fn string(at: u64, text: Text) -> Expr
         ensures { tree result ≡ string at text }
     {
@@ -29,6 +31,7 @@ impl Expr {
         }
     }
 
+    /// A selector: a metric's name, or lists in braces, or both.
     pub fn select(at: u64, name: Option<Text>, lists: List<List<Item>>) -> Expr
         ensures { tree result ≡ select at name lists }
     {
@@ -38,6 +41,7 @@ impl Expr {
         }
     }
 
+    /// A minus before an expression.
     pub fn negate(alloc: Global, at: u64, inner: Expr) -> Result<Expr, AllocError>
         ensures { IfOk result (λ e. tree e ≡ negate at (tree inner)) }
     {
@@ -48,6 +52,7 @@ impl Expr {
         })
     }
 
+    /// An expression with a window, an offset or both.
     pub fn ranged(
         alloc: Global,
         at: u64,
@@ -68,6 +73,7 @@ impl Expr {
         })
     }
 
+    /// A `WITH` with these templates and this body.
     pub fn with(
         alloc: Global,
         at: u64,
@@ -83,6 +89,7 @@ impl Expr {
         })
     }
 
+    /// A call with these arguments.
     pub fn call(at: u64, called: Called, args: List<Expr>) -> Expr
         ensures { tree result ≡ call at called.name (trees_in args) called.before called.after called.keep }
     {
@@ -104,6 +111,7 @@ impl Expr {
         }
     }
 
+    /// An operator with its operands.
     pub fn binary(
         alloc: Global,
         at: u64,
@@ -134,6 +142,7 @@ impl Expr {
 }
 
 impl Template {
+    /// A template with this name, these parameters and this body.
     pub fn new(at: u64, name: Text, params: List<Param>, body: Expr) -> Template
         ensures { template result ≡ record { at = at; name = name; params = params; body = tree body } }
     {
@@ -149,16 +158,23 @@ impl Template {
 /// What stands around the arguments of a call.
 #[derive(Debug, Drop)]
 pub struct Called {
+    /// The name of what is called.
     pub name: Text,
+    /// The group before the arguments.
     pub before: Option<Group>,
+    /// The group after the arguments.
     pub after: Option<Group>,
+    /// Whether `keep_metric_names` stands after the call.
     pub keep: bool,
 }
 
 /// What stands between the operands of an operator.
 #[derive(Debug, Drop)]
 pub struct Joint {
+    /// The operator.
     pub op: Op,
+    /// Whether `bool` stands after the operator.
     pub truth: bool,
+    /// How the operator matches the lines of its sides.
     pub matching: Matching,
 }

@@ -9,7 +9,9 @@ use vm_decimal::Dec;
 #[cycle(expr)]
 #[derive(Debug, Drop)]
 pub struct Expr {
+    /// The place.
     pub at: u64,
+    /// What it is.
     pub node: Node,
 }
 
@@ -23,6 +25,7 @@ pub enum Node {
     Str(Text),
     /// A metric's name, or lists in braces, or both: `up`, `{job="a" or job="b"}`, `up{job="a"}`.
     Select {
+        /// None where no name is written.
         name: Option<Text>,
         /// None where no braces are written. Empty braces are one empty list.
         lists: List<List<Item>>,
@@ -35,20 +38,23 @@ pub enum Node {
     },
     /// A call of a function, of an aggregate or of a template.
     Call {
+        /// The name of what is called.
         name: Text,
+        /// The arguments.
         args: List<Expr>,
         /// The group before the arguments, as in `sum by (job) (up)`.
         before: Option<Group>,
-        /// The group behind them, as in `sum(up) by (job)`.
+        /// The group after them, as in `sum(up) by (job)`.
         after: Option<Group>,
-        /// Whether `keep_metric_names` stands behind it.
+        /// Whether `keep_metric_names` stands after it.
         keep: bool,
     },
     /// `left op right`
     Binary {
         op: Op,
-        /// Whether `bool` stands behind the operator.
+        /// Whether `bool` stands after the operator.
         truth: bool,
+        /// How the operator matches the lines of its sides.
         matching: Matching,
         left: Boxed<Expr>,
         right: Boxed<Expr>,
@@ -68,9 +74,11 @@ pub enum Node {
 pub struct Template {
     /// The place of its name.
     pub at: u64,
+    /// Its name.
     pub name: Text,
     /// None where no parentheses are written.
     pub params: List<Param>,
+    /// Its body.
     pub body: Expr,
 }
 
@@ -79,5 +87,6 @@ pub struct Template {
 pub struct Param {
     /// The place of its name.
     pub at: u64,
+    /// Its name.
     pub name: Text,
 }

@@ -12,6 +12,7 @@ pub enum Item {
     Named {
         /// The place of its first byte in the query's text.
         at: u64,
+        /// The name.
         name: Text,
     },
 }

@@ -20,8 +20,9 @@ pub(crate) fn level_of(expr: &Expr) -> u8
     }
 }
 
-/// How closely an operator binds: 1, the loosest, for `default`, then `if` and `ifnot`, `or`, `and` and
-/// `unless`, comparisons, `+` and `-`, and 7 for `*`, `/` and `%`. (MetricsQL, "Operator precedence")
+/// How closely an operator binds: 1, the loosest, for `default`, then `if` and `ifnot`, `or`, `and`
+/// and `unless`, comparisons, `+` and `-`, and 7 for `*`, `/` and `%`. (MetricsQL, "Operator
+/// precedence")
 pub fn level_of_op(op: Op) -> u8
     ensures value { result ≡ op_level op }
     ensures high { result ≤ 7 }

@@ -139,8 +139,11 @@ pub enum Function {
 /// What a call may be of.
 #[derive(Clone, Copy, Debug, PartialEq, Eq)]
 pub enum Known {
+    /// A function over the samples in a window.
     OfWindow(Rollup),
+    /// An aggregate.
     OfGroup(Aggregate),
+    /// A function over points, or over labels.
     OfPoints(Function),
 }
 

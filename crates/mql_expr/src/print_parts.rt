@@ -39,7 +39,7 @@ fn put_parted_names(names: &[Text], out: &mut Vec<u8>) -> Result<(), AllocError>
     Ok(())
 }
 
-/// Appends names, each behind a comma.
+/// Appends names, each after a comma.
 fn put_more_names(names: &[Text], out: &mut Vec<u8>) -> Result<(), AllocError>
     ensures { OnOk result (out.new.items ≡ out.old.items ++ flat_map (λ name. 44 ∷ name) names.now) }
 {
@@ -109,7 +109,7 @@ fn put_braces(lists: &[List<Item>], out: &mut Vec<u8>) -> Result<(), AllocError>
     Ok(())
 }
 
-/// Appends lists, each behind an ` or `.
+/// Appends lists, each after an ` or `.
 fn put_more_lists(lists: &[List<Item>], out: &mut Vec<u8>) -> Result<(), AllocError>
     ensures { OnOk result (out.new.items ≡ out.old.items ++ flat_map (λ items. codes " or " ++ text_of (list_pieces items)) lists.now) }
 {
@@ -130,7 +130,7 @@ fn put_list(items: &[Item], out: &mut Vec<u8>) -> Result<(), AllocError>
     Ok(())
 }
 
-/// Appends items, each behind a comma.
+/// Appends items, each after a comma.
 fn put_more_items(items: &[Item], out: &mut Vec<u8>) -> Result<(), AllocError>
     ensures { OnOk result (out.new.items ≡ out.old.items ++ flat_map (λ item. 44 ∷ text_of (item_pieces item)) items.now) }
 {
@@ -225,7 +225,7 @@ pub(crate) fn put_before(
     Ok(())
 }
 
-/// Appends what stands behind the arguments: the only group, or the second.
+/// Appends what stands after the arguments: the only group, or the second.
 pub(crate) fn put_after(
     before: &Option<Group>,
     after: &Option<Group>,
@@ -240,7 +240,7 @@ pub(crate) fn put_after(
     }
 }
 
-/// Appends a group behind a blank.
+/// Appends a group after a blank.
 fn put_group(group: &Group, out: &mut Vec<u8>) -> Result<(), AllocError>
     ensures { OnOk result (out.new.items ≡ out.old.items ++ 32 ∷ text_of (group_pieces group.now)) }
 {
@@ -361,7 +361,7 @@ pub(crate) fn put_params(params: &[Param], out: &mut Vec<u8>) -> Result<(), Allo
     Ok(())
 }
 
-/// Appends parameters, each behind a comma.
+/// Appends parameters, each after a comma.
 fn put_more_params(params: &[Param], out: &mut Vec<u8>) -> Result<(), AllocError>
     ensures { OnOk result (out.new.items ≡ out.old.items ++ flat_map (λ param. 44 ∷ param.name) params.now) }
 {

@@ -15,8 +15,8 @@ use mql_lex::{Group, Many, Op};
 /// Finds the first fault of a query whose templates were expanded. The parts of an expression come
 /// before it, from left to right.
 ///
-/// A call is of a function or an aggregate, with arguments as it takes them, and at most one group on
-/// an aggregate alone. Windows and offsets stand on selectors, `group_left` and `group_right` on
+/// A call is of a function or an aggregate, with arguments as it takes them, and at most one group
+/// on an aggregate alone. Windows and offsets stand on selectors, `group_left` and `group_right` on
 /// arithmetic and comparisons, and strings only where a function or an aggregate takes one.
 pub fn check(expr: &Expr) -> Result<(), CheckFault>
     ensures { result ≡ first_fault (query_faults (tree expr.now)) }
@@ -162,7 +162,7 @@ fn operands_fit(op: Op, many: Many, left: &Expr, right: &Expr) -> bool
     !is_string(left) && !is_string(right) && many_fits(op, many)
 }
 
-/// Whether `group_left` or `group_right`, if one is written, may stand behind the operator.
+/// Whether `group_left` or `group_right`, if one is written, may stand after the operator.
 fn many_fits(op: Op, many: Many) -> bool
     ensures { result ≡ many_does_fit op many }
 {

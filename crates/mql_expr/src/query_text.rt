@@ -16,7 +16,7 @@ use std::alloc::AllocError;
 /// Appends the canonical text of a query to `out`, which stays as it was where memory runs out.
 ///
 /// Parentheses stand only where they are needed, words of the language and names of functions and
-/// aggregates are in lower case but for `WITH`, and blanks stand round operators and behind commas
+/// aggregates are in lower case but for `WITH`, and blanks stand round operators and after commas
 /// between arguments. (MetricsQL, "Operators" and "WITH templates")
 pub fn print(expr: &Expr, out: &mut Vec<u8>) -> Result<(), AllocError>
     ensures ok { OnOk result (out.new.items ≡ out.old.items ++ canonical (tree expr.now)) }

@@ -7,14 +7,19 @@ use itoa::Buffer;
 use mql_lex::Span;
 use std::alloc::AllocError;
 
-/// A unit of time. (MetricsQL, "Durations"; PromQL, "Time durations") No call takes or gives one: it is a word of
-/// the laws of `mql_laws`.
+/// A unit of time. (MetricsQL, "Durations"; PromQL, "Time durations") No call takes or gives one:
+/// it is a word of the laws of `mql_laws`.
 #[derive(Clone, Copy)]
 pub enum Unit {
+    /// `d`
     Day,
+    /// `h`
     Hour,
+    /// `m`
     Minute,
+    /// `s`
     Second,
+    /// `ms`
     Millisecond,
 }
 

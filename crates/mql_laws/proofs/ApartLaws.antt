@@ -1,4 +1,4 @@
--- Pieces of which each is cut off by what stands behind it.
+-- Pieces of which each is cut off by what stands after it.
 use Rattle.std.proofs.Common.{◌≡◌, ℕ, ◌+◌, ◌<◌, Bool, true, false, ◌||◌, List, [], ◌∷◌, ◌++◌, length, take, drop, map, Ok, refl, sym, ap, ◌∙◌, append_assoc, append-nil, length-append, arith}
 use Rattle.std.specs.Prelude.{⊤, flat_map}
 use Rattle.std.specs.List.{AllByRecursion}
@@ -23,7 +23,7 @@ is_lone_text [] = false
 is_lone_text (byte ∷ []) = is_lone byte
 is_lone_text (byte ∷ other ∷ more) = false
 
--- whether a text may stand behind a piece
+-- whether a text may stand after a piece
 abbrev pub may_follow : Piece → List ℕ → Bool
 may_follow blank more = ends_blank more
 may_follow (word Name text) more = ends more
@@ -32,7 +32,7 @@ may_follow (word Duration text) more = ends more
 may_follow (word Str text) more = ends more
 may_follow (word Mark text) more = is_lone_text text || ends_mark more
 
--- pieces with a text behind them
+-- pieces with a text after them
 abbrev pub Apart : List Piece → List ℕ → Type 0
 Apart [] more = ⊤
 Apart (p ∷ ps) more = IsPiece p × (may_follow p (text_of ps ++ more) ≡ true) × Apart ps more
@@ -114,7 +114,7 @@ apart_append (p ∷ ps) b more first second =
 abbrev pub Good : List Piece → Type 0
 Good ps = (more : List ℕ) → ends more ≡ true → Apart ps more
 
--- pieces with which no blank begins, so that they may stand behind one
+-- pieces with which no blank begins, so that they may stand after one
 abbrev pub Starts : List Piece → Type 0
 Starts ps = (more : List ℕ) → ends_blank (text_of ps ++ more) ≡ true
 

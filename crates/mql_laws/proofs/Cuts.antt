@@ -1,4 +1,4 @@
--- Where a token ends: the bytes that cut it off from what stands behind it.
+-- Where a token ends: the bytes that cut it off from what stands after it.
 use Rattle.std.proofs.Common.{◌≡◌, ℕ, zero, suc, ◌+◌, ◌-◌, ◌<◌, ◌≤◌, Bool, true, false, not, ◌==◌, List, [], ◌∷◌, ◌++◌, length, drop, codes, Option, Some, None, Result, Ok, Err, refl, sym, ap, subst, ◌∙◌, append-nil, length-append, if◌then◌else◌, arith}
 use Rattle.std.specs.Prelude.{⊤}
 use Rattle.std.specs.List.{AllByRecursion, list_any}
@@ -46,7 +46,7 @@ one_token kind text is =
     let first : Leads far [] 0 (text ++ []) (alone kind text ∷ []) = a_token {at = 0} {kind = kind} {front = text} {more = []} {tokens = []} (whole_longest kind text is) rest in
     tokens_lexed text (alone kind text ∷ []) (subst (λ t. Leads far [] 0 t (alone kind text ∷ [])) (append-nil text) first)
 
--- the first token stands at this place or behind it
+-- the first token stands at this place or after it
 abbrev AtLeast : ℕ → Result (List TokenOf) ℕ → Type 0
 AtLeast at (Ok []) = ⊤
 AtLeast at (Ok (t ∷ ts)) = at ≤ t.at
@@ -108,7 +108,7 @@ piece_alone kind (byte ∷ more) some is =
     found_alone (alone kind (byte ∷ more)) (piece_reading (byte ∷ more)) (λ skip. lexed skip 1 more) (λ skip. lexed_places more skip 1) refl
     (one_token kind (byte ∷ more) is)
 
--- ---- the machine on a word and what stands behind it
+-- ---- the machine on a word and what stands after it
 
 ended_is : (text : List ℕ) (n : ℕ) (o : Option PieceKind) (piece : PieceKind) (len : ℕ) → ended text n o ≡ found piece len
     → (n ≡ len) × (o ≡ Some piece)
@@ -161,7 +161,7 @@ reach_stops [] more phase end whole last stops = subst (λ p. reach p more ≡ (
 reach_stops (byte ∷ front) more phase end whole last stops =
     reach_step (next phase byte) phase front more end (λ behind w l. reach_stops front more behind end w l stops) whole last
 
--- a word is the piece at the front where the machine stops behind it
+-- a word is the piece at the front where the machine stops after it
 word_found : (kind : TokenKind) (text more : List ℕ) (e : Ended kind text) → Stops e.phase more → may_end (Token kind) more ≡ true
     → piece_reading (text ++ more) ≡ found (Token kind) (length text)
 unfolding piece_reading
@@ -174,7 +174,7 @@ word_found kind text more e stops ends =
 
 -- ---- which bytes cut a word off
 
--- the bytes that may stand behind a name, a number, a duration or a string
+-- the bytes that may stand after a name, a number, a duration or a string
 abbrev pub is_end : ℕ → Bool
 is_end byte = list_any (λ one. byte == one) (codes " !(),=[]{}")
 
@@ -241,12 +241,12 @@ may_end_at Duration byte more end =
 may_end_at Str byte more end = refl
 may_end_at Mark byte more end = refl
 
--- what may stand behind a word that is no mark
+-- what may stand after a word that is no mark
 abbrev pub ends : List ℕ → Bool
 ends [] = true
 ends (byte ∷ more) = is_end byte
 
--- what may stand behind any mark
+-- what may stand after any mark
 abbrev pub ends_mark : List ℕ → Bool
 ends_mark [] = false
 ends_mark (byte ∷ more) = is_mark_end byte
@@ -282,7 +282,7 @@ lone_found byte more is =
     ∙ ap (λ (r : ℕ × Phase). (suc r.0, r.1)) (after_lone more) in
     ap (λ (r : ℕ × Phase). ended (byte ∷ more) r.0 (piece_of r.1)) reached
 
--- what may stand behind a blank
+-- what may stand after a blank
 abbrev pub ends_blank : List ℕ → Bool
 ends_blank [] = false
 ends_blank (byte ∷ more) = not (is_blank byte)

@@ -74,7 +74,7 @@ item_back (Named place name) free ws rest (a_word at no_piece) = record { found 
 abbrev more_items : List Item → List Piece
 more_items items = flat_map (λ y. (mark (codes ",") ∷ []) ++ y) (map item_pieces items)
 
--- the items behind a first
+-- the items after the first
 record ItemsBehind (items : List Item) (ws rest : List Word) : Type 0 where
   found : List Item
   same : map placeless_item found ≡ map placeless_item items
@@ -159,7 +159,7 @@ later_lists : (items : List Item) (lists : List (List Item)) → AreLists (items
 later_lists items [] are = tt
 later_lists items (other ∷ lists) are = are.1
 
--- behind the opening brace
+-- after the opening brace
 braces_back : (items : List Item) (lists : List (List Item)) → AreLists (items ∷ lists) → AllByRecursion (AllByRecursion IsFreeItem) (items ∷ lists)
     → (ws rest : List Word) → Stand (parted or_between (map list_pieces (items ∷ lists)) ++ curly) ws rest → BracesRead (items ∷ lists) ws rest
 braces_back [] [] are free ws rest (a_word at no_piece) =

@@ -114,7 +114,7 @@ kind_there [] rest w = refl
 kind_there (v ∷ front) rest w = kind_there front rest w
 
 module _ (len : ℕ) (front rest : List Word) (w : Word) where
-  -- one word behind some that were gone through
+  -- one word after some that were gone through
   further : (limit : ℕ) (s u : State) → run (step limit) start front ≡ Some s → step limit s w ≡ Some u → run (step limit) start (front ++ (w ∷ [])) ≡ Some u
   further limit s u there move =
       run-append (step limit) final_of start front (w ∷ []) ∙ ap (option_and_then (λ t. run (step limit) t (w ∷ []))) there

@@ -79,7 +79,7 @@ module _ (span : Span) where
       subst (λ s. Postfix 0 at (word_at at Mark (codes "[") ∷ word_at d Duration (span_text span) ∷ word_at e Mark (codes "]") ∷ mid) rest (Some s) offset) (ahead_word span is).1
       (windowed (word_at at Mark (codes "[")) (word_at d Duration (span_text span)) (word_at e Mark (codes "]")) (is_open_square at) refl (outside d) (is_close_square e) behind)
 
-  -- a window with whatever stands behind it
+  -- a window with whatever stands after it
   window_back : (offset : Option Span) → IsAhead span → (ws mid rest : List Word) → Stand (window_pieces (Some span)) ws mid
       → OffsetIfAny 0 mid rest offset → (at : ℕ) × Postfix 0 at ws rest (Some span) offset
   window_back offset is ws mid rest (a_word {ws = more} at all) behind = (at, in_squares at offset is rest (is_negative span) refl more mid all behind)

@@ -249,7 +249,7 @@ module _ (len : ℕ) where
   braces_said (no_items close is) fine = (fine.1, tt, (tt, tt))
   braces_said (some_lists {lists = lists} some) fine = let all = lists_said some fine in (all.0, are_lists lists all.1, all.2)
 
-  -- ---- groups, and what stands behind an operator
+  -- ---- groups, and what stands after an operator
 
   group_said : {text rest : List Word} {group : Option Group} → GroupIfAny text rest group → AllFine len text → AllFine len rest × IsOptionalGroup group
   group_said no_group fine = (fine, tt)

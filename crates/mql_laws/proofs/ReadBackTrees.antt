@@ -92,7 +92,7 @@ comma = mark (codes ",") ∷ blank ∷ []
 abbrev behind_commas : List (List Piece) → List Piece
 behind_commas parts = flat_map (λ y. comma ++ y) parts
 
--- the arguments behind a first
+-- the arguments after the first
 record ArgsBehind (ts : Trees) (ws rest : List Word) : Type 0 where
   found : List Tree
   same : placeless_trees (trees_of found) ≡ placeless_trees ts

@@ -147,7 +147,7 @@ module _ (at : ℕ) where
   is_group true = refl
   is_group false = refl
 
--- ---- a word of a class, and then the pieces behind it
+-- ---- a word of a class, and then the pieces after it
 
 pub data Led (class : Class) (ps : List Piece) (rest : List Word) : List Word → Type 0 where
   led : {more : List Word} (w : Word) → Is class w → Stand ps more rest → Led class ps rest (w ∷ more)
@@ -174,7 +174,7 @@ is_op Rem ps ws rest (a_word at more) = led (word_at at Mark (codes "%")) refl m
 
 -- ---- names
 
--- names that go on behind a first, up to the parenthesis
+-- the names after the first, up to the parenthesis
 abbrev more_names : List (List ℕ) → List Piece
 more_names names = flat_map (λ y. (mark (codes ",") ∷ []) ++ y) (map (λ name. named name ∷ []) names)
 
@@ -288,7 +288,7 @@ mods_back Ignoring names many extra is ws rest (a_blank (a_word {ws = more} at a
     let s = split (names_pieces names) (many_pieces many extra) more rest all in
     some_mods (word_at at Name (codes "ignoring")) (is_ignoring at) (names_back names more s.mid s.front) (many_back many extra is s.mid rest s.behind)
 
--- an operator with what stands behind it
+-- an operator with what stands after it
 pub data OperatorRead (op : Op) (truth : Bool) (m : Matching) (rest : List Word) : List Word → Type 0 where
   operator_read : {here mid : List Word} (w : Word) → Is (Class.Operator op) w → TruthIfAny op here mid truth → Mods mid rest m
       → OperatorRead op truth m rest (w ∷ here)

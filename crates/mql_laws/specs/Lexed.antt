@@ -32,21 +32,25 @@ pub record AreWords (all : List Piece) (tokens : List Token) : Type 0 where
 
 -- ---- which trees print as their words
 
+-- a text that is a name
 abbrev pub IsName : List ℕ → Type 0
 IsName text = is_name text ≡ true
 
+-- texts that are names
 abbrev pub AreNames : List (List ℕ) → Type 0
 AreNames = AllByRecursion IsName
 
+-- an item whose name is a name
 abbrev pub IsItem : Item → Type 0
 IsItem (Is filter) = IsName filter.name
 IsItem (Named at name) = IsName name
 
--- Of several lists none is empty.
+-- a list that isn't empty, of such items
 abbrev pub HasItems : List Item → Type 0
 HasItems [] = ⊥
 HasItems (item ∷ items) = AllByRecursion IsItem (item ∷ items)
 
+-- Of several lists none is empty.
 abbrev pub AreLists : List (List Item) → Type 0
 AreLists [] = ⊤
 AreLists (items ∷ []) = AllByRecursion IsItem items
@@ -58,6 +62,7 @@ IsSelect None [] = ⊥
 IsSelect None (items ∷ lists) = AreLists (items ∷ lists)
 IsSelect (Some name) lists = IsName name × AreLists lists
 
+-- no group, or one whose names are names
 abbrev pub IsOptionalGroup : Option Group → Type 0
 IsOptionalGroup None = ⊤
 IsOptionalGroup (Some group) = AreNames group.names
@@ -66,6 +71,7 @@ IsOptionalGroup (Some group) = AreNames group.names
 abbrev pub IsSpan : Span → Type 0
 IsSpan span = (unsigned_abs span.ms < 2 ^ 64) × (unsigned_abs span.steps < 2 ^ 64)
 
+-- no span, or such a one
 abbrev pub IsOptionalSpan : Option Span → Type 0
 IsOptionalSpan None = ⊤
 IsOptionalSpan (Some span) = IsSpan span
@@ -74,10 +80,12 @@ IsOptionalSpan (Some span) = IsSpan span
 abbrev pub IsNumber : ℤ → Type 0
 IsNumber z = (is_dec z ≡ true) × ((form_of z).negative ≡ false)
 
+-- a parameter whose name is a name
 abbrev pub IsParam : Param → Type 0
 IsParam param = IsName param.name
 
 abbrev mutual
+  -- a tree whose parts all meet these conditions
   pub IsPrinted : Tree → Type 0
   IsPrinted (number at z) = IsNumber z
   IsPrinted (string at text) = ⊤
@@ -90,10 +98,12 @@ abbrev mutual
   IsPrinted (negate at inner) = IsPrinted inner
   IsPrinted (with_templates at bindings body) = AreBindings bindings × IsPrinted body
 
+  -- such trees as arguments
   pub ArePrinted : Trees → Type 0
   ArePrinted no_trees = ⊤
   ArePrinted (next_tree tree trees) = IsPrinted tree × ArePrinted trees
 
+  -- templates whose names are names and whose bodies are such trees
   pub AreBindings : Templates → Type 0
   AreBindings no_templates = ⊤
   AreBindings (next_template at name params body more) =

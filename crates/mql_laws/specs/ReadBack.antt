@@ -24,14 +24,16 @@ use Rattle.mql_parse.specs.Values.{Length, is_short, ahead, back}
 
 -- ---- the same query
 
+-- an item with zero for its place
 abbrev pub placeless_item : Item → Item
 placeless_item (Is filter) = Is filter
 placeless_item (Named at name) = Named 0 name
 
+-- a parameter with zero for its place
 abbrev pub placeless_param : Param → Param
 placeless_param param = record { at = 0; name = param.name }
 
--- the groups on the two sides of a call's arguments, where an only group stands behind them
+-- the groups on the two sides of a call's arguments, where an only group stands after them
 abbrev pub first_group : (before after : Option Group) → Option Group
 first_group (Some group) (Some other) = Some group
 first_group before after = None
@@ -41,8 +43,8 @@ last_group (Some group) None = Some group
 last_group before after = after
 
 abbrev mutual
-  -- a query with nothing but noughts for its places, an only group behind the arguments, and the names
-  -- of functions and aggregates in lower case
+  -- A query with zeros for all places. An only group stands after the arguments. The names of
+  -- functions and aggregates are in lower case.
   pub placeless : Tree → Tree
   placeless (number at z) = number 0 z
   placeless (string at text) = string 0 text
@@ -54,10 +56,12 @@ abbrev mutual
   placeless (negate at inner) = negate 0 (placeless inner)
   placeless (with_templates at templates body) = with_templates 0 (placeless_templates templates) (placeless body)
 
+  -- the same of arguments
   pub placeless_trees : Trees → Trees
   placeless_trees no_trees = no_trees
   placeless_trees (next_tree tree trees) = next_tree (placeless tree) (placeless_trees trees)
 
+  -- the same of templates
   pub placeless_templates : Templates → Templates
   placeless_templates no_templates = no_templates
   placeless_templates (next_template at name params body more) =
@@ -74,6 +78,7 @@ Same t u = placeless t ≡ placeless u
 abbrev pub IsFree : List ℕ → Type 0
 IsFree name = class_of_name name ≡ Identifier
 
+-- no name, or one that is no reserved word
 abbrev pub IsFreeIfAny : Option (List ℕ) → Type 0
 IsFreeIfAny None = ⊤
 IsFreeIfAny (Some name) = IsFree name
@@ -102,11 +107,13 @@ abbrev pub IsMany : Many → (extra : List (List ℕ)) → Type 0
 IsMany One extra = extra ≡ []
 IsMany many extra = ⊤
 
+-- Without `on` or `ignoring` no other modifier stands.
 abbrev pub IsMatching : MatchKind → (names : List (List ℕ)) → Many → (extra : List (List ℕ)) → Type 0
 IsMatching All names many extra = (names ≡ []) × (many ≡ One) × (extra ≡ [])
 IsMatching kind names many extra = IsMany many extra
 
 abbrev mutual
+  -- a tree whose parts all meet these conditions
   pub IsSaid : Tree → Type 0
   IsSaid (number at z) = ⊤
   IsSaid (string at text) = ⊤
@@ -119,10 +126,12 @@ abbrev mutual
   IsSaid (negate at inner) = IsSaid inner
   IsSaid (with_templates at templates body) = AreSaidBindings templates × IsSaid body
 
+  -- such trees as arguments
   pub AreSaid : Trees → Type 0
   AreSaid no_trees = ⊤
   AreSaid (next_tree tree trees) = IsSaid tree × AreSaid trees
 
+  -- templates whose names are no reserved words and whose bodies are such trees
   pub AreSaidBindings : Templates → Type 0
   AreSaidBindings no_templates = ⊤
   AreSaidBindings (next_template at name params body more) =
@@ -130,8 +139,8 @@ abbrev mutual
 
 -- ---- the law
 
--- The words are the query. Whatever limits bind, they are no other, and no limit on numbers and no
--- word stands against it: the limit on depth alone may.
+-- The words are the query. Whatever limits bind, they are no other. No word is unexpected and no
+-- number is out of its limits, so only the limit on depth may refuse them.
 pub record ReadsBack (t : Tree) (words : List Word) : Type 0 where
   pub tree : Tree
   pub same : Same tree t
@@ -154,15 +163,17 @@ PrintedIsRead =
 abbrev pub SaidIsRead : Type 0
 SaidIsRead = (t : Tree) → IsPrinted t → IsSaid t → IsReadBack t
 
+-- What a text says is a tree of these conditions.
 abbrev pub TextIsSaid : Type 0
 TextIsSaid =
     (text : List ℕ) (tokens : List Token) (t : Tree) → AreTokens text tokens
     → Spells (length text) (words_of text tokens) t → IsPrinted t × IsSaid t
 
--- The same query has the same canonical text, and no other query has it.
+-- The same query has the same canonical text.
 abbrev pub SameText : Type 0
 SameText = (t u : Tree) → Same t u → canonical t ≡ canonical u
 
+-- Of the trees that meet these conditions no other has it.
 abbrev pub OneQuery : Type 0
 OneQuery =
     (t u : Tree) → IsPrinted t → IsSaid t → IsPrinted u → IsSaid u → canonical t ≡ canonical u

@@ -17,7 +17,7 @@ use Rattle.mql_lex.proofs.Numbers.{NumberTail, no_more_number, point_tail, mark_
 abbrev Counts : List ℕ → Type 0
 Counts text = (text ≡ []) ⊎ IsDuration text
 
--- a unit and what stands behind it
+-- a unit and what stands after it
 pub record UnitTail (text : List ℕ) : Type 0 where
   pub unit : List ℕ
   pub rest : List ℕ
@@ -25,7 +25,7 @@ pub record UnitTail (text : List ℕ) : Type 0 where
   pub a_unit : IsOneOf units unit
   pub counts : Counts rest
 
--- digits, and then such
+-- digits, a unit and what stands after it
 record CountTail (text : List ℕ) : Type 0 where
   pub digits : List ℕ
   pub rest : List ℕ
@@ -47,7 +47,7 @@ duration_by digits text some are tail =
     (more_counts count more))
     tail.counts
 
--- digits behind a unit are a duration
+-- digits after a unit are a duration
 from_tail : (byte : ℕ) (more : List ℕ) → is_ascii_digit byte ≡ true → CountTail more → IsDuration (byte ∷ more)
 from_tail byte more is tail =
     subst (λ t. IsDuration (byte ∷ t)) (sym tail.parts)
@@ -86,7 +86,7 @@ module _ (piece : Piece) where
       go true is reads = let rest = tail reads in (rest.0, inr (from_tail byte more is rest.1))
       go false is reads = absurd (cc reads)
 
-  -- behind digits, a unit
+  -- after digits, a unit
   from_unit : (byte : ℕ) (more : List ℕ) → FromMinutes more → FromCounted more
       → Goes (behind_count byte) more piece → (piece ≡ Token Duration) × UnitTail (byte ∷ more)
   from_unit byte more minutes counted reads = go (byte == 109) (is_unit byte) refl refl reads
@@ -151,7 +151,7 @@ pub data WholeTail (piece : Piece) (text : List ℕ) : Type 0 where
   of_number : piece ≡ Token Number → NumberTail text → WholeTail piece text
   of_duration : piece ≡ Token Duration → UnitTail text → WholeTail piece text
 
--- digits, and then such
+-- digits, and the rest of a number or of a duration
 pub record DigitsTail (piece : Piece) (text : List ℕ) : Type 0 where
   pub digits : List ℕ
   pub rest : List ℕ

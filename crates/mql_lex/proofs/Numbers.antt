@@ -46,7 +46,7 @@ signed_tail (byte ∷ more) piece reads = go (is_ascii_digit byte) refl reads
     go true is reads = first_power byte more piece is reads
     go false is reads = absurd (cc reads)
 
--- what stands behind the letter of an exponent
+-- what stands after the letter of an exponent
 record AfterMark (text : List ℕ) : Type 0 where
   pub sign : List ℕ
   pub digits : List ℕ
@@ -158,7 +158,7 @@ fraction_tail (byte ∷ more) piece reads =
         (after.0, ended (byte ∷ more) (an_exponent byte more other after.1))
     go false false is other reads tail = absurd (cc reads)
 
--- a mantissa and what stands behind it
+-- a mantissa and what stands after it
 number_of : (whole point fraction end : List ℕ) → IsDigits whole → IsDigits fraction
     → 0 < length whole + length fraction → (point ≡ codes ".") ⊎ ((point ≡ []) × (fraction ≡ []))
     → Ending end → IsAnyNumber (whole ++ (point ++ (fraction ++ end)))

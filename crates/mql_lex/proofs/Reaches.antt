@@ -62,7 +62,7 @@ reach_within (byte ∷ more) phase = go (next phase byte) (λ behind. reach_with
     go None tail = omega arith
     go (Some behind) tail = let shorter = tail behind in omega (arith, shorter)
 
--- behind what it reads it goes on from there
+-- after what it reads it goes on from there
 reach_behind : (front more : List ℕ) (phase last : Phase) → run next phase front ≡ Some last
     → ((reach phase (front ++ more)).0 ≡ length front + (reach last more).0)
     × ((reach phase (front ++ more)).1 ≡ (reach last more).1)
@@ -81,8 +81,8 @@ reach_behind (byte ∷ front) more phase last reads =
     go None reads tail = absurd (cc reads)
     go (Some behind) reads tail = let rest = tail behind reads in let far = rest.0 in (omega (arith, far), rest.1)
 
--- ---- from a phase in which a piece may end, a byte leads to another such phase, or the piece may not
--- stand before it
+-- ---- from a phase in which a piece may end, a byte leads to another such phase, or the piece may
+-- not stand before it
 
 abbrev Onward : Option Piece → Option Phase → ℕ → Type 0
 Onward None target byte = ⊤
@@ -126,7 +126,7 @@ module _ (byte : ℕ) where
       go true is = inr (λ rest. mark_in_word byte is)
       go false is = more
 
-  -- digits behind a unit
+  -- digits after a unit
   count_onward : (other : Option Phase) → Onward (Some (Token Duration)) other byte
       → Onward (Some (Token Duration)) (digit_or Counting byte other) byte
   count_onward other more = go (is_ascii_digit byte) refl
@@ -184,7 +184,7 @@ some_piece : (o : Option Piece) → IsSome o → (piece : Piece) × (o ≡ Some 
 some_piece None some = absurd (cc some)
 some_piece (Some piece) some = (piece, refl)
 
--- behind the longest piece the machine stops
+-- after the longest piece the machine stops
 stops : (piece : Piece) (front more : List ℕ) → IsLongest piece front more → (last : Last front piece)
     → (reach last.phase more).0 ≡ 0
 stops piece front [] is last = refl

@@ -1,4 +1,4 @@
--- Tokens stand where they say, one behind the other.
+-- Tokens stand where they say, one after the other.
 use Rattle.std.specs.Prelude.{◌≡◌, ℕ, zero, suc, ◌+◌, ◌≤◌, List, [], ◌∷◌, ◌++◌, length, take, drop, All, Result, Ok, Err, IfOk}
 use Rattle.std.specs.List.{AllByRecursion}
 use Rattle.std.proofs.Common.{refl, arith, sym, ap, subst, ◌∙◌, append_assoc, length-append}
@@ -16,7 +16,7 @@ all_from P [] are k d few = absurd (omega arith)
 all_from P (x ∷ xs) are zero d few = are.0
 all_from P (x ∷ xs) are (suc k) d few = all_from P xs are.1 k d (omega arith)
 
--- a token behind a front of the text
+-- a token after a front of the text
 stands : (front middle more : List ℕ) (at : ℕ) (kind : TokenKind) → at ≡ length front → IsToken kind middle
     → StandsIn (front ++ (middle ++ more)) (record { kind = kind; at = at; len = length middle })
 stands front middle more at kind here is =

@@ -49,7 +49,7 @@ behind_letter false sign digits is some are =
     (first_power Marked (λ byte is. rw is refl) digits some are))
     is
 
--- what may stand behind a mantissa
+-- what may stand after a mantissa
 exponent_read : (phase : Phase) → piece_of phase ≡ Some (Token Number) → next phase 101 ≡ Some Marked
     → next phase 69 ≡ Some Marked → (text : List ℕ) (power : ℤ) → IsOptionalExponent text power
     → Reads phase text (Token Number)
@@ -67,7 +67,7 @@ exponent_read phase ends small large text power is =
     subst (λ t. Reads phase t (Token Number)) (sym e.parts) whole)
     is
 
--- a point and what follows, behind digits
+-- a point and what follows, after digits
 point_read : (point fraction end : List ℕ) → IsDigits fraction
     → (point ≡ codes ".") ⊎ ((point ≡ []) × (fraction ≡ []))
     → Reads Whole end (Token Number) → Reads Fraction end (Token Number)
@@ -129,7 +129,7 @@ number_read text is =
 
 -- ---- durations
 
--- what stands behind a unit is read
+-- what stands after a unit is read
 record BehindUnit (rest : List ℕ) : Type 0 where
   pub counted : Reads Counted rest (Token Duration)
   pub minutes : Reads Minutes rest (Token Duration)
@@ -177,7 +177,7 @@ count_read from into first stays read (byte ∷ digits) unit rest some are a_uni
     (behind_digits into stays digits (unit ++ rest) (Token Duration) are.1
     (each_of (UnitRead into) units unit read a_unit rest behind))
 
--- a duration, read from its front and from behind a unit
+-- a duration, read from its front and from after a unit
 record DurationRead (text : List ℕ) : Type 0 where
   pub start : Reads Start text (Token Duration)
   pub behind : BehindUnit text

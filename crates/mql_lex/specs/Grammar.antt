@@ -10,22 +10,26 @@ use Rattle.mql_lex.specs.declared.token.TokenKind.TheVariants.{Name, Number, Dur
 use Rattle.mql_lex.specs.declared.piece.Piece.{Piece}
 use Rattle.mql_lex.specs.declared.piece.Piece.TheVariants.{Token, Gap}
 
+-- one of these texts
 abbrev pub IsOneOf : List (List ℕ) → List ℕ → Type 0
 IsOneOf [] text = ⊥
 IsOneOf (word ∷ words) text = (text ≡ word) ⊎ IsOneOf words text
 
--- a number without a sign
+-- sign ::= '+' | '-'
 abbrev pub is_sign : ℕ → Bool
 is_sign byte = byte == 43 || byte == 45
 
+-- number ::= (digit+ ('.' digit*)? | '.' digit+) ([eE] sign? digit+)?
+-- digit ::= [0-9]
 abbrev pub IsUnsigned : List ℕ → Type 0
 IsUnsigned text = IsAnyNumber text × (is_sign (slice_index text 0) ≡ false)
 
+-- unit ::= 'ms' | 's' | 'm' | 'h' | 'd' | 'w' | 'y' | 'i'
 abbrev pub units : List (List ℕ)
 units =
     codes "ms" ∷ codes "s" ∷ codes "m" ∷ codes "h" ∷ codes "d" ∷ codes "w" ∷ codes "y" ∷ codes "i" ∷ []
 
--- digits and a unit
+-- count ::= digit+ unit
 pub record IsCount (text : List ℕ) : Type 0 where
   pub digits : List ℕ
   pub unit : List ℕ
@@ -34,7 +38,7 @@ pub record IsCount (text : List ℕ) : Type 0 where
   pub are : IsDigits digits
   pub a_unit : IsOneOf units unit
 
--- this once or more often
+-- duration ::= count+
 pub data IsDuration : List ℕ → Type 0 where
   one_count : {text : List ℕ} → IsCount text → IsDuration text
   more_counts : {front rest : List ℕ} → IsCount front → IsDuration rest → IsDuration (front ++ rest)
@@ -43,18 +47,18 @@ pub data IsDuration : List ℕ → Type 0 where
 abbrev pub is_quote : ℕ → Bool
 is_quote byte = byte == 34 || byte == 39
 
--- what may stand behind a backslash: `\`, `"`, `'`, `n` or `t`
+-- escape ::= '\' | '"' | "'" | 'n' | 't', after a backslash
 abbrev pub is_escape : ℕ → Bool
 is_escape byte = byte == 92 || byte == 34 || byte == 39 || byte == 110 || byte == 116
 
--- whether a text may stand between two such quotes, which it has only behind a backslash; `escaped`
--- says whether a backslash stands before it
+-- Whether a text may stand between two such quotes. It has the quote only after a backslash.
+-- `escaped` says whether a backslash stands before the text.
 abbrev pub is_inner : ℕ → Bool → List ℕ → Bool
 is_inner quote escaped [] = not escaped
 is_inner quote true (byte ∷ more) = is_escape byte && is_inner quote false more
 is_inner quote false (byte ∷ more) = not (byte == quote) && is_inner quote (byte == 92) more
 
--- a text between two quotes
+-- string ::= '"' ([^"\] | '\' escape)* '"' | "'" ([^'\] | '\' escape)* "'"
 pub record IsQuoted (text : List ℕ) : Type 0 where
   pub quote : ℕ
   pub inner : List ℕ
@@ -62,12 +66,16 @@ pub record IsQuoted (text : List ℕ) : Type 0 where
   pub a_quote : is_quote quote ≡ true
   pub between : is_inner quote false inner ≡ true
 
+-- mark ::= '(' | ')' | '{' | '}' | '[' | ']' | ',' | '=' | '=~' | '!~' | '==' | '!=' | '<=' | '>='
+--     | '<' | '>' | '+' | '-' | '*' | '/' | '%'
 abbrev pub marks : List (List ℕ)
 marks =
     codes "(" ∷ codes ")" ∷ codes "{" ∷ codes "}" ∷ codes "[" ∷ codes "]" ∷ codes "," ∷ codes "="
     ∷ codes "=~" ∷ codes "!~" ∷ codes "==" ∷ codes "!=" ∷ codes "<=" ∷ codes ">=" ∷ codes "<"
     ∷ codes ">" ∷ codes "+" ∷ codes "-" ∷ codes "*" ∷ codes "/" ∷ codes "%" ∷ []
 
+-- token ::= name | number | duration | string | mark
+-- name ::= [A-Za-z_:] [A-Za-z0-9_:]*, also a reserved word
 abbrev pub IsToken : TokenKind → List ℕ → Type 0
 IsToken Name text = is_name text ≡ true
 IsToken Number text = IsUnsigned text
@@ -75,21 +83,21 @@ IsToken Duration text = IsDuration text
 IsToken Str text = IsQuoted text
 IsToken Mark text = IsOneOf marks text
 
--- a space, a tab, a carriage return or a line feed
+-- blank ::= #x20 | #x9 | #xD | #xA: a space, a tab, a carriage return or a line feed
 abbrev pub is_blank : ℕ → Bool
 is_blank byte = byte == 32 || byte == 9 || byte == 13 || byte == 10
 
--- `#` and what stands behind it in its line
+-- comment ::= '#' [^#xA]*
 pub record IsComment (text : List ℕ) : Type 0 where
   pub line : List ℕ
   pub parts : text ≡ 35 ∷ line
   pub one_line : list_all (λ byte. not (byte == 10)) line ≡ true
 
--- blanks or a comment
+-- gap ::= blank+ | comment
 abbrev pub IsGap : List ℕ → Type 0
 IsGap text = ((0 < length text) × (list_all is_blank text ≡ true)) ⊎ IsComment text
 
--- a token, or what may stand between two
+-- piece ::= token | gap
 abbrev pub IsPiece : Piece → List ℕ → Type 0
 IsPiece (Token kind) text = IsToken kind text
 IsPiece Gap text = IsGap text

@@ -27,10 +27,11 @@ is_lone_mark byte = list_any (λ mark. byte == mark) (codes "(){}[],+-*/%")
 abbrev pub only_if : Phase → Bool → Option Phase
 only_if phase test = if test then Some phase else None
 
--- this phase behind a digit
+-- this phase after a digit, the other one after any other byte
 abbrev pub digit_or : Phase → ℕ → Option Phase → Option Phase
 digit_or phase byte other = if is_ascii_digit byte then Some phase else other
 
+-- the phase after the first byte of a piece, none where no piece begins with it
 abbrev pub first : ℕ → Option Phase
 first byte =
     digit_or Whole byte (
@@ -44,20 +45,23 @@ first byte =
     else (if byte == 60 || byte == 62 then Some Angle
     else only_if Marking (is_lone_mark byte)))))))))
 
+-- the phase after a byte that follows digits and begins a unit
 abbrev pub behind_count : ℕ → Option Phase
 behind_count byte = if byte == 109 then Some Minutes else only_if Counted (is_unit byte)
 
+-- the phase after a byte that isn't a digit and follows digits, which may be of a number
 abbrev pub behind_whole : ℕ → Option Phase
 behind_whole byte =
     if byte == 46 then Some Fraction
     else (if is_mark_letter byte then Some Marked else behind_count byte)
 
+-- the phase after a byte in a string that this quote opened
 abbrev pub within : ℕ → ℕ → Option Phase
 within quote byte =
     if byte == quote then Some Closed
     else (if byte == 92 then Some (Escaped quote) else Some (Within quote))
 
--- the phase behind a byte, none where no piece goes on with it
+-- the phase after a byte, none where no piece goes on with it
 abbrev pub next : Phase → ℕ → Option Phase
 next Start byte = first byte
 next Named byte = only_if Named (is_name_byte byte)

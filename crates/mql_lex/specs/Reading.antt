@@ -17,7 +17,7 @@ reach phase [] = (0, phase)
 reach phase (byte ∷ more) =
     option_map_or (λ behind. (suc (reach behind more).0, (reach behind more).1)) (next phase byte) (0, phase)
 
--- the piece that ends behind so many bytes of a text, and its length
+-- the piece that ends after so many bytes of a text, and its length
 abbrev pub ended : List ℕ → ℕ → Option Piece → Option (Piece × ℕ)
 ended text len None = None
 ended text len (Some piece) = if may_end piece (drop len text) then Some (piece, len) else None
@@ -36,20 +36,21 @@ abbrev pub token_of : Piece → (at len : ℕ) → List TokenOf
 token_of (Token kind) at len = record { kind = kind; at = at; len = len } ∷ []
 token_of Gap at len = []
 
--- what a piece at a place and the rest come to; `rest` takes the number of the piece's bytes but one
+-- What a piece at a place and the rest come to. `rest` takes the piece's length less one.
 abbrev pub with_piece : ℕ → Option (Piece × ℕ) → (ℕ → Result (List TokenOf) ℕ)
     → Result (List TokenOf) ℕ
 with_piece at None rest = Err at
 with_piece at (Some (piece, len)) rest = put_before (token_of piece at len) (rest (len - 1))
 
--- the tokens of a text whose first byte has the place `at`, or the place where none begins; the first
--- `skip` bytes belong to a piece that was taken
+-- The tokens of a text whose first byte has the place `at`, or the place where none begins. The
+-- first `skip` bytes belong to a piece that was taken.
 abbrev pub lexed : (skip at : ℕ) → List ℕ → Result (List TokenOf) ℕ
 lexed skip at [] = Ok []
 lexed (suc skip) at (byte ∷ more) = lexed skip (suc at) more
 lexed zero at (byte ∷ more) =
     with_piece at (piece_reading (byte ∷ more)) (λ skip. lexed skip (suc at) more)
 
+-- the tokens, or the bad place as a fault
 abbrev pub or_bad : Result (List TokenOf) ℕ → Result (List TokenOf) LexFault
 or_bad (Ok tokens) = Ok tokens
 or_bad (Err at) = Err (BadToken at)
@@ -59,6 +60,7 @@ unfoldable pub reading : List ℕ → Result (List TokenOf) LexFault
 reading text =
     if nat_lt 16384 (length text) then Err (TooLong (length text)) else or_bad (lexed 0 0 text)
 
+-- The reading is this fault. `Memory` says nothing of the reading.
 abbrev pub Fails : LexFault → Result (List TokenOf) LexFault → Type 0
 Fails Memory read = ⊤
 Fails fault read = read ≡ Err fault

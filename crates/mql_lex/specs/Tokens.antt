@@ -30,7 +30,7 @@ pub data Leads (far : ℕ) (rest : List ℕ) : (at : ℕ) → (text : List ℕ) 
       → Leads far rest at (front ++ more)
       (record { kind = kind; at = at; len = length front } ∷ tokens)
 
--- the tokens of the whole text
+-- the tokens of the whole text: text ::= piece*, each piece the longest at its place
 abbrev pub AreTokens : List ℕ → List TokenOf → Type 0
 AreTokens text tokens = Leads (length text) [] 0 text tokens
 
@@ -43,13 +43,13 @@ pub record StandsIn (text : List ℕ) (token : TokenOf) : Type 0 where
   pub within : token.at + token.len ≤ length text
   pub is : IsToken token.kind (slice_of text token)
 
--- tokens one behind the other, the first at this place or behind it
+-- tokens one after the other, the first at this place or after it
 abbrev pub AreInOrder : ℕ → List TokenOf → Type 0
 AreInOrder from [] = ⊤
 AreInOrder from (token ∷ tokens) =
     (from ≤ token.at) × (0 < token.len) × AreInOrder (token.at + token.len) tokens
 
--- the first place, behind some pieces, where more text is left and no piece begins it
+-- the first place, after some pieces, where more text is left and no piece begins it
 pub record IsBad (text : List ℕ) (at : ℕ) : Type 0 where
   pub tokens : List TokenOf
   pub rest : List ℕ

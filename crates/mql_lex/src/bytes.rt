@@ -25,7 +25,7 @@ pub(crate) fn is_name_byte(byte: u8) -> bool
     matches!(byte, b'a'..=b'z' | b'A'..=b'Z' | b'_' | b':' | b'0'..=b'9')
 }
 
-/// A letter, a digit or `_`, which may not stand right behind a number or a duration.
+/// A letter, a digit or `_`, which may not stand right after a number or a duration.
 pub(crate) fn is_word_byte(byte: u8) -> bool
     ensures { result ≡ in_word byte }
 {
@@ -38,7 +38,7 @@ pub(crate) fn is_quote(byte: u8) -> bool
     matches!(byte, b'"' | b'\'')
 }
 
-/// Whether it may stand behind a backslash.
+/// Whether it may stand after a backslash.
 pub(crate) fn is_escape(byte: u8) -> bool
     ensures { result ≡ escape byte }
 {

@@ -10,9 +10,9 @@ use std::alloc::AllocError;
 pub enum LexFault {
     /// The text has n bytes, more than `MAX_QUERY_TEXT`.
     TooLong { n: u64 },
-    /// No token begins at this place, counted in bytes from 0, and neither does a blank or a comment.
-    /// A string that isn't closed or has a wrong escape goes wrong at its opening quote, and a number
-    /// or a duration right before a letter, a digit or `_` at its first byte.
+    /// No token begins at this place, counted in bytes from 0, and neither does a blank or a
+    /// comment. A string that isn't closed or has a wrong escape goes wrong at its opening quote,
+    /// and a number or a duration right before a letter, a digit or `_` at its first byte.
     BadToken { at: u64 },
     /// Memory ran out.
     Memory,

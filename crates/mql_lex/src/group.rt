@@ -14,11 +14,13 @@ pub struct Group {
 /// How an operator matches the lines of its sides. (PromQL, "Vector matching")
 #[derive(Debug, Drop)]
 pub struct Matching {
+    /// By which labels lines match.
     pub kind: MatchKind,
-    /// The names behind `on` or `ignoring`.
+    /// The names after `on` or `ignoring`.
     pub names: List<Text>,
+    /// Which side may have many lines that match one of the other.
     pub many: Many,
-    /// The names behind `group_left` or `group_right`: labels that are taken from the other side.
+    /// The names after `group_left` or `group_right`: labels that are taken from the other side.
     pub extra: List<Text>,
 }
 

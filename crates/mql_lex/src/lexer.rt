@@ -13,11 +13,11 @@ use vm_base::List;
 use vm_base::limits::MAX_QUERY_TEXT;
 
 /// Cuts a query's text into its tokens, each the longest at its place, in the order in which they
-/// stand. Between them stand spaces, tabs, carriage returns, line feeds and comments from `#` to the
-/// line's end, and nothing else. A token's text is the slice at its place, of its length.
+/// stand. Between them stand spaces, tabs, carriage returns, line feeds and comments from `#` to
+/// the line's end, and nothing else. A token's text is the slice at its place, of its length.
 ///
-/// `TooLong` comes exactly for a text of more than 16,384 bytes, whatever it holds. `BadToken` names
-/// the first byte where no token, blank or comment begins.
+/// `TooLong` comes exactly for a text of more than 16,384 bytes, whatever it holds. `BadToken`
+/// names the first byte where no token, blank or comment begins.
 ///
 /// (PromQL, "Literals"; MetricsQL)
 pub fn tokens(alloc: Global, text: &str) -> Result<List<Token>, LexFault>

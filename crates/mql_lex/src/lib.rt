@@ -4,9 +4,9 @@
 //! they are found here, and what it is that a text's tokens are. `docs/query-language.md` says the
 //! same for people.
 //!
-//! Begin with `Token` and `tokens`. A text is cut into pieces, each the longest at its place: `piece`
-//! takes one byte a turn through the phases of `phase`. `operator`, `group` and `span` are words of
-//! queries that the layers above share.
+//! Begin with `Token` and `tokens`. A text is cut into pieces, each the longest at its place:
+//! `piece` takes one byte a step through the phases of `phase`. `operator`, `group` and `span` are
+//! words of queries that the layers above share.
 //!
 //! It stands on `vm_base` for lists and texts, and on the grammars of `vm_labels` for names and of
 //! `vm_decimal` for numbers.

@@ -1,4 +1,4 @@
-//! How far a piece of a text was read, one byte a turn.
+//! How far a piece of a text was read, one byte a step.
 
 ghost use Rattle.std.specs.Prelude.{◌≡◌};
 ghost use Rattle.mql_lex.specs.Machine.{next as next_phase, first as first_phase, behind_whole as whole_phase, behind_count as count_phase, within as string_phase, digit_or as digit_phase, only_if as tested_phase, piece_of as piece};
@@ -13,6 +13,7 @@ use crate::token::TokenKind;
 /// How far a piece was read. No call takes or gives one: it is a word of the laws of `mql_laws`.
 #[derive(Clone, Copy)]
 pub enum Phase {
+    /// Nothing was read.
     Start,
     /// A name so far.
     Named,
@@ -22,32 +23,39 @@ pub enum Phase {
     Bare,
     /// Digits and a point.
     Fraction,
-    /// Behind the letter of an exponent, and behind its sign.
+    /// The letter of an exponent.
     Marked,
+    /// The letter of an exponent and a sign.
     MarkSigned,
     /// The digits of an exponent.
     Power,
-    /// `m` behind digits, which may become `ms`.
+    /// `m` after digits, which may become `ms`.
     Minutes,
     /// Any other unit.
     Counted,
-    /// Digits behind a unit.
+    /// Digits after a unit.
     Counting,
-    /// In a string that this quote opened, and there behind a backslash.
+    /// In a string that this quote opened.
     Within(u8),
+    /// In such a string, after a backslash.
     Escaped(u8),
+    /// A string with its closing quote.
     Closed,
     /// A mark with which no longer one begins.
     Marking,
-    /// `=`, `!`, and `<` or `>`.
+    /// `=`
     Equals,
+    /// `!`
     Bang,
+    /// `<` or `>`
     Angle,
+    /// Blanks.
     Blanks,
+    /// A comment.
     Comment,
 }
 
-/// The phase behind a byte, none where no piece goes on with it.
+/// The phase after a byte, none where no piece goes on with it.
 pub(crate) fn next(phase: Phase, byte: u8) -> Option<Phase>
     ensures { result ≡ next_phase phase byte }
 {
@@ -81,7 +89,7 @@ pub(crate) fn next(phase: Phase, byte: u8) -> Option<Phase>
     }
 }
 
-/// The phase behind the first byte of a piece.
+/// The phase after the first byte of a piece.
 fn first(byte: u8) -> Option<Phase>
     ensures { result ≡ first_phase byte }
 {
@@ -108,7 +116,7 @@ fn first(byte: u8) -> Option<Phase>
     }
 }
 
-/// The phase behind a byte that isn't a digit and follows digits, which may be of a number.
+/// The phase after a byte that isn't a digit and follows digits, which may be of a number.
 fn behind_whole(byte: u8) -> Option<Phase>
     ensures { result ≡ whole_phase byte }
 {
@@ -121,7 +129,7 @@ fn behind_whole(byte: u8) -> Option<Phase>
     }
 }
 
-/// The phase behind a byte that follows digits and begins a unit.
+/// The phase after a byte that follows digits and begins a unit.
 fn behind_count(byte: u8) -> Option<Phase>
     ensures { result ≡ count_phase byte }
 {
@@ -132,7 +140,7 @@ fn behind_count(byte: u8) -> Option<Phase>
     }
 }
 
-/// The phase behind a byte in a string that this quote opened.
+/// The phase after a byte in a string that this quote opened.
 fn within(quote: u8, byte: u8) -> Option<Phase>
     ensures { result ≡ string_phase quote byte }
 {
@@ -145,7 +153,7 @@ fn within(quote: u8, byte: u8) -> Option<Phase>
     }
 }
 
-/// This phase behind a digit.
+/// This phase after a digit.
 fn digit_or(phase: Phase, byte: u8, other: Option<Phase>) -> Option<Phase>
     ensures { result ≡ digit_phase phase byte other }
 {

@@ -34,7 +34,7 @@ pub(crate) fn piece_at(text: &[u8]) -> Option<(Piece, usize)>
     }
 }
 
-/// How many bytes at the front of a text may stand in one piece, and the phase behind them.
+/// How many bytes at the front of a text may stand in one piece, and the phase after them.
 fn reach(text: &[u8]) -> (usize, Phase)
     ensures value { result ≡ reached Start text.now }
     ensures within { result.0 ≤ length text.now }

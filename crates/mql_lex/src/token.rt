@@ -18,6 +18,7 @@ pub enum TokenKind {
 /// One token, as a part of the text that it stands in.
 #[derive(Clone, Copy, Debug, PartialEq, Eq)]
 pub struct Token {
+    /// What it is.
     pub kind: TokenKind,
     /// The place of its first byte, counted from 0.
     pub at: u64,

@@ -20,9 +20,9 @@ use Rattle.mql_lists.specs.declared.role.Role.TheVariants.{Free, Either, Reserve
 use Rattle.mql_lists.proofs.RoleLaws.{free_says, either_says, compare_says, value_says, next_says, curly_says, label_says, answer, same_parts}
 use Rattle.mql_lists.proofs.BraceReads.{reader}
 
--- ---- what may stand behind each place
+-- ---- what may stand after each place
 
--- behind a comma: the rest of the list, and more lists
+-- after a comma: the rest of the list, and more lists
 data CommaTail : List Word → List Word → List Item → List (List Item) → Type 0 where
   comma_closed : {rest : List Word} (close : Word) → IsA CloseCurly close → CommaTail (close ∷ rest) rest [] []
   comma_parted : {text rest : List Word} {lists : List (List Item)} (between : Word) → IsA (Operator Or) between
@@ -30,7 +30,7 @@ data CommaTail : List Word → List Word → List Item → List (List Item) → 
   comma_more : {text rest : List Word} {items : List Item} {lists : List (List Item)}
       → SomeLists text rest (items ∷ lists) → CommaTail text rest items lists
 
--- behind an item
+-- after an item
 data ItemTail : List Word → List Word → List Item → List (List Item) → Type 0 where
   closed : {rest : List Word} (close : Word) → IsA CloseCurly close → ItemTail (close ∷ rest) rest [] []
   parted : {text rest : List Word} {lists : List (List Item)} (between : Word) → IsA (Operator Or) between
@@ -38,7 +38,7 @@ data ItemTail : List Word → List Word → List Item → List (List Item) → T
   comma_behind : {text rest : List Word} {items : List Item} {lists : List (List Item)} (comma : Word)
       → IsA Comma comma → CommaTail text rest items lists → ItemTail (comma ∷ text) rest items lists
 
--- behind the opening bracket
+-- after the opening bracket
 data FirstTail : List Word → List Word → List Item → List (List Item) → Type 0 where
   first_closed : {rest : List Word} (close : Word) → IsA CloseCurly close → FirstTail (close ∷ rest) rest [] []
   first_some : {text rest : List Word} {items : List Item} {lists : List (List Item)}
@@ -120,7 +120,7 @@ found_end place found w more rest all tail is =
 
 -- ---- one word
 
--- what is known of the words behind one
+-- what is known of the words after one
 abbrev Behind : List Word → List Word → List (List Item) → Type 0
 Behind more rest all = (place : Place) (found : Gathered) → leads braces_step (reader found place) more ≡ Some (all, rest)
     → Found place found more rest all
@@ -208,7 +208,7 @@ from_comma found w more rest all Reserved role behind is =
     comma_from found w more rest all (from_wanted found w more rest all Reserved role behind is)
 from_comma found w more rest all _ role behind is = absurd (cc is)
 
--- `or` behind a comma parted two lists
+-- `or` after a comma parted two lists
 or_from : (name : List ℕ) (found : Gathered) (w : Word) (more rest : List Word) (all : List (List Item))
     → Found Wanted (with_list found) (w ∷ more) rest all → Found (AfterOr name) found (w ∷ more) rest all
 or_from name found w more rest all tail = record {

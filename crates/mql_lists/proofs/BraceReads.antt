@@ -27,7 +27,7 @@ reads lists items place text = leads braces_step (reader (gathered lists items) 
 
 -- ---- one item
 
--- what may stand behind an item
+-- what may stand after an item
 abbrev follows : Role → Bool
 follows Next = true
 follows Either = true
@@ -38,7 +38,7 @@ abbrev Follows : List Word → Type 0
 Follows [] = ⊥
 Follows (w ∷ rest) = follows (word_role w) ≡ true
 
--- a name is an item where such a word stands behind it
+-- a name is an item where such a word stands after it
 same_turn : (found : Gathered) (head : Heading) (r : Role) → head.free ≡ true → follows r ≡ true
     → behind_name found head r ≡ behind_item (with_item found (named_item head)) r
 same_turn found head Next free is = rw free refl
@@ -136,7 +136,7 @@ lists_begin : {text rest : List Word} {lists : List (List Item)} → SomeLists t
 lists_begin (last_list close is one) = list_begins one
 lists_begin (next_list between is one more) = list_begins one
 
--- `or` behind a comma parts two lists where a name stands behind it
+-- `or` after a comma parts two lists where a name stands after it
 or_turn : (found : Gathered) (name : List ℕ) (w : Word) (r : Role) → is_label r ≡ true
     → after_or found name w r ≡ begins_item (with_list found) w r
 or_turn found name w Free is = refl

@@ -30,7 +30,7 @@ read before (next_name {text = text} {rest = rest} {names = names} name comma la
 
 -- ---- what is read the grammar says
 
--- what may stand behind a name
+-- what may stand after a name
 data BehindName : List Word → List Word → List (List ℕ) → Type 0 where
   closed : {rest : List Word} (close : Word) → IsA CloseRound close → BehindName (close ∷ rest) rest []
   parted : {text rest : List Word} {names : List (List ℕ)} (comma : Word) → IsA Comma comma → Names text rest names

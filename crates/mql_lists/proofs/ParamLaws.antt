@@ -29,7 +29,7 @@ read_comma before (next_param {text = text} {rest = rest} {params = params} name
     (read_comma (before ++ param name ∷ []) more
     ∙ ap (λ v. Some (v, rest)) (append_assoc before (param name ∷ []) params))
 
--- the first parameter is read as those behind a comma
+-- the first parameter is read as those after a comma
 opened_same : (before : List Param) {text rest : List Word} {params : List Param} → SomeParams text rest params
     → leads params_step (reader Opened before) text ≡ leads params_step (reader BehindComma before) text
 opened_same before (last_param name close free is) = rw (role_free name free) refl
@@ -43,7 +43,7 @@ read before (some_params are) = opened_same before are ∙ read_comma before are
 
 -- ---- what is read the grammar says
 
--- what may stand behind a parameter
+-- what may stand after a parameter
 data Behind : List Word → List Word → List Param → Type 0 where
   closed : {rest : List Word} (close : Word) → IsA CloseRound close → Behind (close ∷ rest) rest []
   parted : {text rest : List Word} {params : List Param} (comma : Word) → IsA Comma comma → SomeParams text rest params

@@ -18,7 +18,7 @@ use Rattle.mql_lists.specs.declared.class.Class.{Class}
 
 -- ---- rows of a table
 
--- the row at a place decides, or those behind it
+-- the row at a place decides, or those after it
 pub row_at : {R : Type 0} (view : R → List ℕ × Class) (rows : List R) (i : ℕ) (d : R) (is : List ℕ → Bool)
     (other : Class) → i < length rows
     → class_in (map view (drop i rows)) is other
@@ -158,7 +158,7 @@ plain_byte byte more not_n not_t not_slash =
     let slash : (byte == 92) ≡ false = grind (arith, nat_tests) in
     rw (n, t, slash) refl
 
--- what stands behind a backslash stands for itself, but for three bytes
+-- what stands after a backslash stands for itself, but for three bytes
 pub plain : (text : List ℕ) → ((rest : List ℕ) → text ≡ 110 ∷ rest → ⊥) → ((rest : List ℕ) → text ≡ 116 ∷ rest → ⊥)
     → ((rest : List ℕ) → text ≡ 92 ∷ rest → ⊥) → unescaped true text ≡ unescaped false text
 plain [] not_n not_t not_slash = refl

@@ -12,7 +12,8 @@ use Rattle.mql_lists.specs.Words.{Word}
 use Rattle.mql_lists.specs.declared.class.Class.{Class}
 use Rattle.mql_lists.specs.declared.class.Class.TheVariants.{Identifier, Numeral, Time, Quoted, Operator, Assign, Like, Unlike, Comma, OpenRound, CloseRound, OpenCurly, CloseCurly, OpenSquare, CloseSquare, Grouping, Pairing, Joining, Truth, Offset, With, Keep, Strange}
 
--- the reserved words
+-- reserved ::= 'default' | 'if' | 'ifnot' | 'or' | 'and' | 'unless' | 'bool' | 'on' | 'ignoring'
+--     | 'group_left' | 'group_right' | 'offset' | 'with' | 'by' | 'without' | 'keep_metric_names'
 abbrev pub reserved_words : List (List ℕ × Class)
 reserved_words =
     (codes "default", Operator Default) ∷ (codes "if", Operator If)
@@ -23,6 +24,7 @@ reserved_words =
     ∷ (codes "by", Grouping true) ∷ (codes "without", Grouping false)
     ∷ (codes "keep_metric_names", Keep) ∷ []
 
+-- the marks
 abbrev pub mark_words : List (List ℕ × Class)
 mark_words =
     (codes "(", OpenRound) ∷ (codes ")", CloseRound) ∷ (codes "{", OpenCurly)
@@ -39,13 +41,15 @@ abbrev pub class_in : List (List ℕ × Class) → (List ℕ → Bool) → Class
 class_in [] is other = other
 class_in (row ∷ rows) is other = if is row.0 then row.1 else class_in rows is other
 
--- reserved words are read without regard to ASCII case
+-- the class of a name: identifier ::= name - reserved, without regard to ASCII case
 unfoldable pub class_of_name : List ℕ → Class
 class_of_name text = class_in reserved_words (str_eq_ignore_ascii_case text) Identifier
 
+-- the class of a mark
 unfoldable pub class_of_mark : List ℕ → Class
 class_of_mark text = class_in mark_words (bytes_eq text) Strange
 
+-- the class of a token of this kind and this text
 abbrev pub class_of_kind : TokenKind → List ℕ → Class
 class_of_kind Name text = class_of_name text
 class_of_kind Number text = Numeral
@@ -53,6 +57,7 @@ class_of_kind Duration text = Time
 class_of_kind Str text = Quoted
 class_of_kind Mark text = class_of_mark text
 
+-- the class of a word
 abbrev pub class_of_word : Word → Class
 class_of_word word = class_of_kind word.kind word.text
 

@@ -2,7 +2,7 @@
 -- matching" and "Instant vector selectors")
 --
 -- Most words here say what stands at the front of some words, with the bracket that closes it, and
--- hand on the rest, which stands behind it.
+-- hand on the rest, which follows it.
 use Rattle.std.specs.Prelude.{◌≡◌, ℕ, List, [], ◌∷◌, Some}
 use Rattle.mql_lex.specs.declared.token.TokenKind.TheVariants.{Name}
 use Rattle.mql_lex.specs.declared.operator.Op.TheVariants.{Or}
@@ -24,12 +24,13 @@ IsA class word = class_of_word word ≡ class
 abbrev pub IsLabel : Word → Type 0
 IsLabel word = word.kind ≡ Name
 
--- the operator of a filter
+-- filter_op ::= '=' | '!=' | '=~' | '!~'
 abbrev pub Compares : FilterOp → Word → Type 0
 Compares op word = filter_op (class_of_word word) ≡ Some op
 
--- ---- names = [ name { "," name } [","] ], behind `(`
+-- ---- names
 
+-- names ::= (name (',' name)* ','?)?, with the ')' that follows
 pub data Names : List Word → List Word → List (List ℕ) → Type 0 where
   no_names : {rest : List Word} (close : Word) → IsA CloseRound close
       → Names (close ∷ rest) rest []
@@ -39,12 +40,13 @@ pub data Names : List Word → List Word → List (List ℕ) → Type 0 where
       → IsA Comma comma → Names text rest names
       → Names (name ∷ comma ∷ text) rest (name.text ∷ names)
 
--- ---- params = [ name { "," name } ], behind `(`
+-- ---- parameters
 
+-- a name at its place
 abbrev pub param : Word → Param
 param name = record { at = name.at; name = name.text }
 
--- one or more
+-- one parameter or more, with the ')' that follows
 pub data SomeParams : List Word → List Word → List Param → Type 0 where
   last_param : {rest : List Word} (name close : Word) → IsA Identifier name → IsA CloseRound close
       → SomeParams (name ∷ close ∷ rest) rest (param name ∷ [])
@@ -52,17 +54,16 @@ pub data SomeParams : List Word → List Word → List Param → Type 0 where
       → IsA Identifier name → IsA Comma comma → SomeParams text rest params
       → SomeParams (name ∷ comma ∷ text) rest (param name ∷ params)
 
+-- params ::= (identifier (',' identifier)*)?, with the ')' that follows
 pub data Params : List Word → List Word → List Param → Type 0 where
   no_params : {rest : List Word} (close : Word) → IsA CloseRound close
       → Params (close ∷ rest) rest []
   some_params : {text rest : List Word} {params : List Param} → SomeParams text rest params
       → Params text rest params
 
--- ---- braces = [ list { "or" list } ], behind `{`
+-- ---- braces
 
--- item = name ("=" | "!=" | "=~" | "!~") string | name
---
--- What stands behind it is the rest. A reserved word is a label's name before an operator alone.
+-- item ::= name filter_op string | identifier
 pub data OneItem : List Word → List Word → Item → Type 0 where
   a_filter : {rest : List Word} {op : FilterOp} (name sign value : Word) → IsLabel name
       → Compares op sign → IsA Quoted value
@@ -71,9 +72,7 @@ pub data OneItem : List Word → List Word → Item → Type 0 where
   a_name : {rest : List Word} (name : Word) → IsA Identifier name
       → OneItem (name ∷ rest) rest (Named name.at name.text)
 
--- list = item { "," item } [","]
---
--- What stands behind it is the rest.
+-- list ::= item (',' item)* ','?
 pub data OneList : List Word → List Word → List Item → Type 0 where
   last_item : {text rest : List Word} {item : Item} → OneItem text rest item
       → OneList text rest (item ∷ [])
@@ -83,7 +82,7 @@ pub data OneList : List Word → List Word → List Item → Type 0 where
       → IsA Comma comma → OneItem text (comma ∷ more) item → OneList more rest items
       → OneList text rest (item ∷ items)
 
--- one list or more
+-- one list or more, with the '}' that follows
 pub data SomeLists : List Word → List Word → List (List Item) → Type 0 where
   last_list : {text rest : List Word} {items : List Item} (close : Word) → IsA CloseCurly close
       → OneList text (close ∷ rest) items → SomeLists text rest (items ∷ [])
@@ -91,7 +90,8 @@ pub data SomeLists : List Word → List Word → List (List Item) → Type 0 whe
       (between : Word) → IsA (Operator Or) between → OneList text (between ∷ more) items
       → SomeLists more rest lists → SomeLists text rest (items ∷ lists)
 
--- empty braces are one empty list
+-- lists ::= (list ('or' list)*)?, with the '}' that follows; 'or' without regard to ASCII case
+-- Empty braces are one empty list.
 pub data Braces : List Word → List Word → List (List Item) → Type 0 where
   no_items : {rest : List Word} (close : Word) → IsA CloseCurly close
       → Braces (close ∷ rest) rest ([] ∷ [])

@@ -15,7 +15,7 @@ pub record GoesOn {S V : Type 0} (step : S → Word → Option (Progress S V)) (
   pub places : AllByRecursion (λ word. word.at ≡ at) more
   pub ends : leads step state (more ++ rest) ≡ Some (value, rest)
 
--- Of the words behind the opening bracket a machine reads what the grammar says, and nothing else,
+-- Of the words after the opening bracket a machine reads what the grammar says, and nothing else,
 -- and from each state it reads some words to the end.
 pub record IsReader {S V : Type 0} (step : S → Word → Option (Progress S V)) (start : S)
     (grammar : List Word → List Word → V → Type 0) : Type 0 where
@@ -25,6 +25,7 @@ pub record IsReader {S V : Type 0} (step : S → Word → Option (Progress S V))
       → grammar text rest value
   pub viable : (state : S) (at : ℕ) (rest : List Word) → GoesOn step state at rest
 
+-- The machines of names, parameters and braces read what the grammar says.
 abbrev pub NamesAreRead : Type 0
 NamesAreRead = IsReader names_step names_start Names
 

@@ -1,7 +1,7 @@
 -- What a string of a query stands for. (MetricsQL, "string literals")
 use Rattle.std.specs.Prelude.{ℕ, ◌-◌, ◌==◌, Bool, true, false, List, [], ◌∷◌, length, take, drop, if◌then◌else◌}
 
--- what stands for a byte behind a backslash: `n` for a line feed, `t` for a tab, another for itself
+-- what stands for a byte after a backslash: `n` for a line feed, `t` for a tab, another for itself
 abbrev pub escaped : ℕ → ℕ
 escaped byte = if byte == 110 then 10 else (if byte == 116 then 9 else byte)
 

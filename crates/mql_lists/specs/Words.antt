@@ -10,8 +10,10 @@ pub record Word : Type 0 where
   pub text : List ℕ
   pub at : ℕ
 
+-- a token of a text as a word
 abbrev pub word_of : List ℕ → Token → Word
 word_of text token = record { kind = token.kind; text = slice_of text token; at = token.at }
 
+-- the tokens of a text as words
 abbrev pub words_of : List ℕ → List Token → List Word
 words_of text tokens = map (word_of text) tokens

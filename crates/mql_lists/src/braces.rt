@@ -21,8 +21,8 @@ use std::alloc::{AllocError, Global};
 use vm_base::{List, Text};
 use vm_labels::{Filter, FilterOp};
 
-/// Reads the lists of items behind `{`, up to `}`: filters and names, parted by commas, of which one
-/// may stand behind the last of a list, and lists parted by `or`. Empty braces hold one empty list.
+/// Reads the lists of items after `{`, up to `}`: filters and names, parted by commas, of which one
+/// may stand after the last of a list, and lists parted by `or`. Empty braces hold one empty list.
 /// (MetricsQL, "filters")
 #[derive(Drop)]
 pub struct BracesReader {
@@ -44,7 +44,7 @@ pub(crate) struct Gathered {
 pub(crate) enum Place {
     /// `{`
     First,
-    /// `or` behind a list.
+    /// `or` after a list.
     Wanted,
     /// A name at the beginning of an item.
     AtName(Heading),
@@ -52,7 +52,7 @@ pub(crate) enum Place {
     AtSign(Begun),
     BehindItem,
     AfterComma,
-    /// `or` behind a comma: a name where an operator follows, and else it parts two lists.
+    /// `or` after a comma: a name where an operator follows, and else it parts two lists.
     AfterOr(Text),
 }
 
@@ -77,7 +77,7 @@ pub(crate) struct Begun {
 type Turn = Option<Progress<BracesReader, List<List<Item>>>>;
 
 impl BracesReader {
-    /// Behind `{`. It takes no memory.
+    /// After `{`. It takes no memory.
     pub fn new(alloc: Global) -> BracesReader
         ensures { result ≡ braces_start }
     {
@@ -262,7 +262,7 @@ fn behind_sign(
     Ok(goes(found, Place::BehindItem))
 }
 
-/// Behind a comma, where `or` may be a name or part two lists.
+/// After a comma, where `or` may be a name or part two lists.
 fn after_comma(
     alloc: Global,
     found: Gathered,

@@ -12,8 +12,8 @@ use mql_lex::Token;
 use std::alloc::{AllocError, Global};
 use vm_base::{List, Text};
 
-/// Reads the names of labels behind `(`, up to `)`. They are parted by commas, and one may stand
-/// behind the last. A reserved word may be a name here. (PromQL, "Aggregation operators")
+/// Reads the names of labels after `(`, up to `)`. They are parted by commas, and one may stand
+/// after the last. A reserved word may be a name here. (PromQL, "Aggregation operators")
 #[derive(Drop)]
 pub struct NamesReader {
     /// The names that were read.
@@ -23,7 +23,7 @@ pub struct NamesReader {
 }
 
 impl NamesReader {
-    /// Behind `(`. It takes no memory.
+    /// After `(`. It takes no memory.
     pub fn new(alloc: Global) -> NamesReader
         ensures { result ≡ names_start }
     {

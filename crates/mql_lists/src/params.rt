@@ -13,8 +13,8 @@ use mql_lex::Token;
 use std::alloc::{AllocError, Global};
 use vm_base::List;
 
-/// Reads the parameters of a template behind `(`, up to `)`. They are parted by commas, with none
-/// behind the last, and no reserved word is one. (MetricsQL, "WITH templates")
+/// Reads the parameters of a template after `(`, up to `)`. They are parted by commas, with none
+/// after the last, and no reserved word is one. (MetricsQL, "WITH templates")
 #[derive(Drop)]
 pub struct ParamsReader {
     /// The parameters that were read.
@@ -32,7 +32,7 @@ pub(crate) enum Spot {
 }
 
 impl ParamsReader {
-    /// Behind `(`. It takes no memory.
+    /// After `(`. It takes no memory.
     pub fn new(alloc: Global) -> ParamsReader
         ensures { result ≡ params_start }
     {

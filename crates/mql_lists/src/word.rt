@@ -57,8 +57,8 @@ fn push_unescaped(text: &mut String, escaped: &str) -> Result<(), AllocError>
     Ok(())
 }
 
-/// Appends what the character behind a backslash stands for, where it isn't itself, and gives what is
-/// still to be read.
+/// Appends what the character after a backslash stands for, where it isn't itself, and gives what
+/// is still to be read.
 fn push_escape<'a>(text: &mut String, escaped: &'a str) -> Result<&'a str, AllocError>
     ensures read { IfOk result (λ rest. string_bytes text.old ++ unescaped true escaped.now
         ≡ string_bytes text.new ++ unescaped false rest.now) }
@@ -81,7 +81,7 @@ fn push_escape<'a>(text: &mut String, escaped: &'a str) -> Result<&'a str, Alloc
     }
 }
 
-/// What stands before the first backslash and behind it.
+/// What stands before the first backslash and after it.
 fn at_escape(text: &str) -> Option<(&str, &str)>
     ensures plain { IfNone result (unescaped false text.now ≡ text.now) }
     ensures found { IfSome result (λ p. unescaped false text.now ≡ p.0.now ++ unescaped true p.1.now) }

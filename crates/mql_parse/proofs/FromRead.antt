@@ -173,7 +173,7 @@ module _ (len : ℕ) (whole : List Word) where
   reducing k l o (in_template scope h ps ∷ fs) t start rest few le low tail built reads =
       stopped k l o (in_template scope h ps ∷ fs) t start rest le (omega arith) tail built reads
 
-  -- ---- behind an expression
+  -- ---- after an expression
 
   kept_close : (fs : List Frame) (o : Bool) (t : Tree) (start : List Word) (w : Word) (rest : List Word) (u : State) → Built len whole fs start
       → Reads len (opened fs) 0 o start (w ∷ rest) t → Is Class.CloseRound w → close_frame fs t ≡ Ok u → HeldAt len whole u rest
@@ -321,7 +321,7 @@ module _ (len : ℕ) (whole : List Word) where
       landed len whole new u rest to (w, is, may_open len w.at fs new u move, built)
   kept_wanted fs w rest u built _ is move = absurd (cc move)
 
-  -- ---- behind an operator
+  -- ---- after an operator
 
   kept_compared : (fs : List Frame) (j : Joint) (start : List Word) (w : Word) (rest : List Word) (u : State) → JointRead len fs j start (w ∷ rest) → Built len whole fs start
       → (c : Class) → Is c w → by_compared len fs j w c ≡ Ok u → HeldAt len whole u rest

@@ -17,7 +17,7 @@ use Rattle.mql_parse.specs.Machine.{State, at, moved, Frame, Before, step, by, f
 abbrev pub Yields : ℕ → State → List Word → Tree → Type 0
 Yields len s text r = result (step len) final_of s text ≡ Some r
 
--- the same of a text behind one move
+-- the same of a text after one move
 abbrev pub Moves : ℕ → Option State → List Word → Tree → Type 0
 Moves len next text r = option_and_then final_of (option_and_then (λ t. run (step len) t text) next) ≡ Some r
 

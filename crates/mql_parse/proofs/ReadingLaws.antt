@@ -49,7 +49,7 @@ module _ (len : ℕ) where
   short_first words s there none =
       FirstWrong-same to_expr from_expr words (length words) (short_at (step len) final_of start (viable len) words s there none)
 
--- places and kinds behind a front
+-- places and kinds after a front
 place_behind : (len : ℕ) (front rest : List Word) (w : Word) → w.at ≡ place_of len (front ++ (w ∷ rest)) (length front)
 place_behind len [] rest w = refl
 place_behind len (v ∷ front) rest w = place_behind len front rest w

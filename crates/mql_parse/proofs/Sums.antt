@@ -21,7 +21,7 @@ less_count c (suc u) r =
     (cases_lt c (2 ^ 48))
 
 module _ (of : Length → ℕ) (of_plus : (l k : Length) → of (plus l k) ≡ of l + of k) (of_times : (c : ℕ) (l : Length) → of (times c l) ≡ c * of l) where
-  -- so is the sum behind it
+  -- so is the sum after it
   far_count : (c : ℕ) (text : List ℕ) → AsFar (of (length_behind (min c (2 ^ 48)) text)) (of (length_behind c text))
   far_count c [] = refl
   far_count c (byte ∷ more) = go (is_ascii_digit byte) (far_count (min c (2 ^ 48) * 10 + (byte - 48)) more) (far_count (c * 10 + (byte - 48)) more)

@@ -71,7 +71,7 @@ module _ (len : ℕ) (fs : List Frame) {r : Tree} where
   braces_go place name {text = text} {rest = rest} {lists = lists} there reads =
       part len braces_step (λ t. at fs (in_braces place name t)) (λ v. at fs (primary (select place name v))) (λ s w. refl) braces_start text rest lists r (braces_read there) reads
 
-  -- behind an operator
+  -- after an operator
   truth_go : (j : Joint) {text rest : List Word} {truth : Bool} → TruthIfAny j.op text rest truth
       → Yields len (at fs (compared (record { at = j.at; op = j.op; truth = truth; operand = j.operand }))) rest r
       → j.truth ≡ false → Yields len (at fs (operated j)) text r
@@ -131,7 +131,7 @@ module _ (len : ℕ) (fs : List Frame) {r : Tree} where
       on_class len fs (compared j) (Class.Pairing kind) (at fs (names_wanted (matched_by j kind))) w text r is refl
       (wanted_names (matched_by j kind) listed (many_go j kind names more reads))
 
-  -- behind a call
+  -- after a call
   keep_go : (c : Call) {text rest : List Word} {keep : Bool} → KeepIfAny text rest keep → Yields len (at fs (primary (calling c keep))) rest r
       → Yields len (at fs (regrouped c)) text r
   keep_go c (no_keep {text = text}) reads = like len (at fs (regrouped c)) (at fs (primary (calling c false))) (regrouped_like len fs c) text r reads
@@ -222,8 +222,8 @@ wants (in_minus place ∷ fs) = unary
 wants (in_plus ∷ fs) = unary
 wants (_ ∷ fs) = 0
 
--- What later words see of a state behind an expression of a level: operators no tighter than it, where
--- one may follow, `)`, `,` and the end.
+-- What later words see of a state after an expression of a level: operators no tighter than it,
+-- where one may follow, `)`, `,` and the end.
 pub record After (len l : ℕ) (o : Bool) (fs : List Frame) (t : Tree) (s : State) : Type 0 where
   pub operators : (w : Word) (op : Op) → Is (Class.Operator op) w → level op ≤ l → o ≡ false → step len s w ≡ Some (operate (reduce (level op) fs t) w.at op)
   pub closes : (w : Word) → Is Class.CloseRound w → step len s w ≡ moved (close (reduce 0 fs t))
@@ -325,7 +325,7 @@ no_more_templates s = ap (λ ts. record { at = s.at; templates = ts }) (append-n
 pub one_more_template : (s : Scope) (t : TreeTemplate) (ts : List TreeTemplate) → with_more (with_more s (t ∷ [])) ts ≡ with_more s (t ∷ ts)
 one_more_template s t ts = ap (λ us. record { at = s.at; templates = us }) (append_assoc s.templates (t ∷ []) ts)
 
--- what later words see of a state behind a template
+-- what later words see of a state after a template
 record AfterTemplate (len : ℕ) (fs : List Frame) (scope : Scope) (t : TreeTemplate) (s : State) : Type 0 where
   pub closes : (w : Word) → Is Class.CloseRound w → step len s w ≡ Some (at (in_body (with_more scope (t ∷ [])) ∷ fs) wanted)
   pub continues : (w : Word) → Is Class.Comma w → step len s w ≡ Some (at fs (template_wanted (with_more scope (t ∷ []))))

@@ -1,4 +1,4 @@
--- The parser's turns: one token each.
+-- The parser's steps: one token each.
 use Rattle.std.specs.Prelude.{◌≡◌, ℕ, zero, suc, ◌+◌, ◌<◌, ◌≤◌, List, [], ◌∷◌, ◌++◌, length, take, drop, map, Some, None, Ok, Err, option_and_then, true, false}
 use Rattle.std.proofs.Common.{refl, ap, sym, subst, ◌∙◌, arith, get_or}
 use Rattle.vm_base.specs.Run.{run}

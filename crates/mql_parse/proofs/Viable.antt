@@ -29,7 +29,7 @@ use Rattle.mql_parse.proofs.Moves.{Yields, on, part}
 use Rattle.mql_parse.proofs.Parts.{names_viable, params_viable, braces_viable}
 use Rattle.mql_parse.proofs.ToRead.{through}
 
--- a word behind the end of the text
+-- a word after the end of the text
 abbrev beyond : ℕ → TokenKind → List ℕ → Word
 beyond len kind text = record { kind = kind; text = text; at = len }
 
@@ -67,7 +67,7 @@ one len = beyond len Number (codes "1")
 abbrev time : ℕ → Word
 time len = beyond len Duration (codes "1s")
 
--- more words behind those that a part's machine read
+-- more words after those that a part's machine read
 leads_more : {S V : Type 0} (machine : S → Word → Option (Progress S V)) (s : S) (text left rest : List Word) (v : V) → leads machine s text ≡ Some (v, left)
     → leads machine s (text ++ rest) ≡ Some (v, left ++ rest)
 leads_more machine s [] left rest v there = absurd (cc there)

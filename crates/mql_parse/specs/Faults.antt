@@ -18,13 +18,14 @@ is_measure Class.Numeral = true
 is_measure Class.Time = true
 is_measure _ = false
 
+-- whether the word at an index is one
 abbrev pub measures_at : List Word → ℕ → Bool
 measures_at [] index = false
 measures_at (w ∷ words) zero = is_measure (class_of_word w)
 measures_at (w ∷ words) (suc index) = measures_at words index
 
 -- The first word with which the words so far begin no expression is here, and without limits they
--- begin none either; or they end too early.
+-- begin none either. Or the words end too early.
 pub record IsUnexpected (len : ℕ) (words : List Word) (at : ℕ) : Type 0 where
   pub index : ℕ
   pub place : at ≡ place_of len words index

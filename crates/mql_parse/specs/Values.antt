@@ -5,6 +5,7 @@ use Rattle.vm_decimal.specs.DecText.{dec_reading}
 use Rattle.vm_decimal.specs.declared.sample_text.NumFault.{NumFault}
 use Rattle.mql_lex.specs.declared.span.Span.{Span}
 
+-- the number, none in place of a fault
 abbrev pub or_none : Result ℤ NumFault → Option ℤ
 or_none (Ok z) = Some z
 or_none (Err fault) = None
@@ -13,6 +14,7 @@ or_none (Err fault) = None
 unfoldable pub number_of : List ℕ → Option ℤ
 number_of text = or_none (dec_reading text)
 
+-- the number, 0 where there is none
 abbrev pub or_zero : Option ℤ → ℤ
 or_zero (Some z) = z
 or_zero None = pos 0
@@ -22,14 +24,16 @@ pub record Length : Type 0 where
   pub ms : ℕ
   pub steps : ℕ
 
+-- so many ms and no steps
 abbrev pub some_ms : ℕ → Length
 some_ms ms = record { ms = ms; steps = 0 }
 
+-- whether a text begins with this byte
 abbrev pub begins_with : ℕ → List ℕ → Bool
 begins_with byte [] = false
 begins_with byte (b ∷ more) = b == byte
 
--- one of the unit whose first letter stands before some more text. An `s` behind `m` is of the unit
+-- one of the unit whose first letter stands before some more text. An `s` after `m` is of the unit
 -- `ms`, and no digits stand before it.
 abbrev pub unit_at : ℕ → List ℕ → Length
 unit_at letter more =
@@ -41,13 +45,15 @@ unit_at letter more =
     else (if letter == 121 then some_ms 31536000000
     else record { ms = 0; steps = 1 })))))
 
+-- so many of a length
 abbrev pub times : ℕ → Length → Length
 times count l = record { ms = count * l.ms; steps = count * l.steps }
 
+-- the sum of two lengths
 abbrev pub plus : Length → Length → Length
 plus l k = record { ms = l.ms + k.ms; steps = l.steps + k.steps }
 
--- what a text says behind the digits of a number
+-- what a text says after the digits of a number
 abbrev pub length_behind : ℕ → List ℕ → Length
 length_behind count [] = some_ms 0
 length_behind count (b ∷ more) =
@@ -62,9 +68,11 @@ length_of text = length_behind 0 text
 abbrev pub is_short : Length → Bool
 is_short l = nat_lt l.ms (2 ^ 48) && nat_lt l.steps (2 ^ 48)
 
+-- a length as a span
 abbrev pub ahead : Length → Span
 ahead l = record { ms = pos l.ms; steps = pos l.steps }
 
+-- a length as a span below zero
 abbrev pub back : Length → Span
 back l = record { ms = pos 0 -ℤ pos l.ms; steps = pos 0 -ℤ pos l.steps }
 

@@ -17,18 +17,23 @@ use Rattle.mql_parse.specs.declared.state.Pending.{Pending}
 use Rattle.mql_parse.specs.declared.state.Scoping.{Scoping}
 use Rattle.mql_parse.specs.declared.state.Templating.{Templating}
 
+-- a name at its place
 abbrev pub the_head : Heading → Head
 the_head h = record { at = h.at; name = h.name }
 
+-- a call as far as it was read
 abbrev pub the_call : Calling → Call
 the_call c = record { at = c.at; name = c.name; args = map tree c.args; before = c.before; after = c.after }
 
+-- an operator and its left operand
 abbrev pub the_joint : Pending → Joint
 the_joint p = record { at = p.at; op = p.op; truth = p.truth; operand = tree p.left }
 
+-- a `with` and its templates so far
 abbrev pub the_scope : Scoping → Scope
 the_scope s = record { at = s.at; templates = map template s.templates }
 
+-- what an expression stands in
 abbrev pub the_frame : Open → Frame
 the_frame Open.Round = in_parens
 the_frame (Open.Negating place) = in_minus place
@@ -42,12 +47,14 @@ the_frame (Open.Scoped s) = in_body (the_scope s)
 abbrev pub the_frames : List Open → List Frame
 the_frames opens = map the_frame opens
 
+-- what names in parentheses are for
 abbrev pub the_purpose : NamesFor → Purpose
 the_purpose (NamesFor.GroupBefore c by) = before_args (the_call c) by
 the_purpose (NamesFor.GroupAfter c by) = after_args (the_call c) by
 the_purpose (NamesFor.Pairs p kind) = matched_by (the_joint p) kind
 the_purpose (NamesFor.Taken p) = taken_over (the_joint p.pending) p.kind p.names p.many
 
+-- how far a window or an offset was read
 abbrev pub the_measuring : Measuring → Before
 the_measuring (Measuring.WindowWanted r) = window_wanted r.at (tree r.inner)
 the_measuring (Measuring.WindowRead r span) = window_read r.at (tree r.inner) span
@@ -55,12 +62,14 @@ the_measuring (Measuring.Windowed r span) = windowed r.at (tree r.inner) span
 the_measuring (Measuring.OffsetWanted r window) = offset_wanted r.at (tree r.inner) window
 the_measuring (Measuring.OffsetBack r window) = offset_back r.at (tree r.inner) window
 
+-- how far an operator was read
 abbrev pub the_joining : Joining → Before
 the_joining (Joining.Operator p) = operated (the_joint p)
 the_joining (Joining.Compared p) = compared (the_joint p)
 the_joining (Joining.Matched p) = matched (the_joint p.pending) p.kind p.names
 the_joining (Joining.Widened p) = many_read (the_joint p.pending) p.kind p.names p.many
 
+-- how far the templates of a `with` were read
 abbrev pub the_templating : Templating → Before
 the_templating (Templating.With place) = with_read place
 the_templating (Templating.Wanted s) = template_wanted (the_scope s)
@@ -68,6 +77,7 @@ the_templating (Templating.Name s h) = template_named (the_scope s) (the_head h)
 the_templating (Templating.InParams s h state) = in_params (the_scope s) (the_head h) state
 the_templating (Templating.Head s h ps) = template_headed (the_scope s) (the_head h) ps
 
+-- what stands right before the next word
 abbrev pub the_before : Last → Before
 the_before Last.Nothing = wanted
 the_before (Last.Name h) = named (the_head h)

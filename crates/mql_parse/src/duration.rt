@@ -56,7 +56,7 @@ fn added(text: &[u8]) -> Sum
     sum
 }
 
-/// The sum behind one more byte.
+/// The sum after one more byte.
 #[tactic(auto, using(crate::proofs::Sums::digit_ms, crate::proofs::Sums::digit_steps, crate::proofs::Sums::unit_ms, crate::proofs::Sums::unit_steps))]
 fn taken(sum: Sum, byte: u8, more: &[u8]) -> Sum
     ensures ms { AsFar (result.ms + (length_behind result.count more.now).ms) (sum.ms + (length_behind sum.count (byte ∷ more.now)).ms) }

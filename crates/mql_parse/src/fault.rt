@@ -5,8 +5,8 @@ ghost use Rattle.mql_parse.specs.declared.fault.StepError.TheVariants.{Memory};
 
 use std::alloc::AllocError;
 
-/// What is wrong with a token where an expression can't go on with it. No call gives one: it is a word of the laws of
-/// `mql_laws`.
+/// What is wrong with a token where an expression can't go on with it. No call gives one: it is a
+/// word of the laws of `mql_laws`.
 #[derive(Clone, Copy)]
 pub enum Wrong {
     /// No expression goes on with it.

@@ -1,4 +1,4 @@
-//! Behind an operator.
+//! After an operator.
 
 ghost use Rattle.std.specs.Prelude.{◌≡◌, ◌<◌, ◌∷◌, [], ℕ, List as ListOf};
 ghost use Rattle.mql_lex.specs.Tokens.{StandsIn};
@@ -22,7 +22,7 @@ use mql_lists::{Class, NamesReader, class_of};
 use std::alloc::Global;
 use vm_base::{List, Text};
 
-/// Behind an operator and a part of what belongs to it.
+/// After an operator and a part of what belongs to it.
 pub(crate) fn by_joining(
     alloc: Global,
     stack: &mut Stack,
@@ -42,7 +42,7 @@ pub(crate) fn by_joining(
     }
 }
 
-/// Behind an operator.
+/// After an operator.
 fn by_operator(
     alloc: Global,
     stack: &mut Stack,
@@ -60,7 +60,7 @@ fn by_operator(
     }
 }
 
-/// Behind `bool`, which only a comparison may have.
+/// After `bool`, which only a comparison may have.
 fn by_truth(pending: Pending) -> Result<Last, StepError>
     ensures { (opens : ListOf OpenOf) → Steps result opens (only (compares pending.op) Unexpected (state_at (the_frames opens) (compared (true_joint (the_joint pending))))) }
 {
@@ -86,7 +86,7 @@ fn is_comparison(op: Op) -> bool
     )
 }
 
-/// Behind an operator and `bool`, where one may stand.
+/// After an operator and `bool`, where one may stand.
 fn by_compared(
     alloc: Global,
     stack: &mut Stack,
@@ -113,7 +113,7 @@ fn by_compared(
     }
 }
 
-/// Behind the names of `on` or `ignoring`.
+/// After the names of `on` or `ignoring`.
 fn by_matched(
     alloc: Global,
     stack: &mut Stack,
@@ -151,7 +151,7 @@ fn by_matched(
     }
 }
 
-/// Behind `group_left` or `group_right`.
+/// After `group_left` or `group_right`.
 fn by_widened(
     alloc: Global,
     stack: &mut Stack,

@@ -1,8 +1,8 @@
 //! Queries, from their tokens.
 //!
 //! Begin with `parse`. It follows the machine of `specs/Machine.antt`, one token a `step`, over a
-//! `Stack` of what is open. What a query is stands apart from that in `specs/Grammar.antt`, and what
-//! its faults are in `specs/Faults.antt`; `laws` has that machine and grammar agree.
+//! `Stack` of what is open. What a query is stands apart from that in `specs/Grammar.antt`, and
+//! what its faults are in `specs/Faults.antt`; `laws` has that machine and grammar agree.
 //!
 //! It stands on `mql_lex` for tokens, on `mql_lists` for the parts of a query that don't nest, on
 //! `mql_expr` for expressions, on `vm_decimal` for numbers and on `vm_base` for lists and texts.

@@ -21,7 +21,7 @@ use mql_lex::{Op, Span, Token};
 use mql_lists::{Class, class_of};
 use std::alloc::Global;
 
-/// Behind a part of a window or of an offset.
+/// After a part of a window or of an offset.
 pub(crate) fn by_measuring(
     alloc: Global,
     stack: &mut Stack,
@@ -50,7 +50,7 @@ pub(crate) fn by_measuring(
     }
 }
 
-/// Behind `[`.
+/// After `[`.
 #[tactic(auto, using(crate::proofs::Openings::measured_there, crate::proofs::Openings::measured_wide))]
 fn by_window_wanted(ranging: Ranging, text: &str, token: Token) -> Result<Last, StepError>
     requires stands { StandsIn text.now token }
@@ -66,7 +66,7 @@ fn by_window_wanted(ranging: Ranging, text: &str, token: Token) -> Result<Last, 
     }
 }
 
-/// Behind `[` and a duration.
+/// After `[` and a duration.
 fn by_window_read(ranging: Ranging, span: Span, class: Class) -> Result<Last, StepError>
     ensures { (opens : ListOf OpenOf) → Steps result opens (after_length (the_frames opens) ranging.at (tree ranging.inner) span class) }
 {
@@ -76,7 +76,7 @@ fn by_window_read(ranging: Ranging, span: Span, class: Class) -> Result<Last, St
     }
 }
 
-/// Behind a window.
+/// After a window.
 fn by_window(
     alloc: Global,
     stack: &mut Stack,
@@ -97,7 +97,7 @@ fn by_window(
     }
 }
 
-/// Behind `offset`.
+/// After `offset`.
 #[tactic(auto, using(crate::proofs::Openings::measured_there, crate::proofs::Openings::measured_wide))]
 fn by_offset_wanted(
     alloc: Global,
@@ -120,7 +120,7 @@ fn by_offset_wanted(
     }
 }
 
-/// Behind `offset -`.
+/// After `offset -`.
 #[tactic(auto, using(crate::proofs::Openings::measured_there, crate::proofs::Openings::measured_wide))]
 fn by_offset_back(
     alloc: Global,

@@ -31,7 +31,7 @@ pub(crate) fn by_names_wanted(
     }
 }
 
-/// Behind one more word among names.
+/// After one more word among names.
 pub(crate) fn behind_names(
     stack: &mut Stack,
     purpose: NamesFor,
@@ -48,7 +48,7 @@ pub(crate) fn behind_names(
     }
 }
 
-/// Behind names and their `)`.
+/// After names and their `)`.
 fn named_for(stack: &mut Stack, purpose: NamesFor, names: List<Text>) -> Result<Last, StepError>
     ensures { Steps result (stack_of stack.new) (reached (behind_purpose (the_frames (stack_of stack.old)) (the_purpose purpose) names)) }
 {
@@ -88,7 +88,7 @@ fn grouped(call: Calling, group: Group) -> Calling
     }
 }
 
-/// A call with the group behind its arguments.
+/// A call with the group after its arguments.
 fn regrouped(call: Calling, group: Group) -> Calling
     ensures { the_call result ≡ record { at = call.at; name = call.name; args = map tree call.args; before = call.before; after = Some group } }
 {
@@ -127,7 +127,7 @@ fn operating(paired: Paired, extra: List<Text>) -> Open
     Open::Operating(pending, matching)
 }
 
-/// Behind one more word in braces.
+/// After one more word in braces.
 pub(crate) fn behind_braces(
     at: u64,
     name: Option<Text>,

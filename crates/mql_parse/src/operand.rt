@@ -1,4 +1,4 @@
-//! Behind an expression, before its window and its offset.
+//! After an expression, before its window and its offset.
 
 ghost use Rattle.std.specs.Prelude.{◌≡◌, ◌<◌, ◌∷◌, ℕ, false, true};
 ghost use Rattle.mql_expr.specs.Tree.{tree};
@@ -28,7 +28,7 @@ pub(crate) fn open_level(stack: &mut Stack, frame: Open) -> Result<Last, StepErr
     Ok(Last::Nothing)
 }
 
-/// Behind an expression that may take a window or an offset.
+/// After an expression that may take a window or an offset.
 pub(crate) fn by_primary(
     alloc: Global,
     stack: &mut Stack,
@@ -51,7 +51,7 @@ pub(crate) fn by_primary(
     }
 }
 
-/// Behind a call with the group behind it.
+/// After a call and the group that follows it.
 pub(crate) fn by_regrouped(
     alloc: Global,
     stack: &mut Stack,
@@ -66,7 +66,7 @@ pub(crate) fn by_regrouped(
     }
 }
 
-/// Behind a call with all that belongs to it.
+/// After a call with all that belongs to it.
 fn by_call(alloc: Global, stack: &mut Stack, call: Calling, here: Here) -> Result<Last, StepError>
     ensures { Steps result (stack_of stack.new) (after_primary (the_frames (stack_of stack.old)) (called_tree (the_call call) false) here.at here.class) }
 {
@@ -74,7 +74,7 @@ fn by_call(alloc: Global, stack: &mut Stack, call: Calling, here: Here) -> Resul
     by_primary(alloc, stack, expr, here)
 }
 
-/// Behind the arguments of a call.
+/// After the arguments of a call.
 pub(crate) fn by_called(
     alloc: Global,
     stack: &mut Stack,
@@ -89,7 +89,7 @@ pub(crate) fn by_called(
     }
 }
 
-/// Behind a call with its group, before its arguments.
+/// After a call with its group, before its arguments.
 pub(crate) fn by_grouped(stack: &mut Stack, call: Calling, here: Here) -> Result<Last, StepError>
     ensures { (len : ℕ) → here.at < len → Steps result (stack_of stack.new) (after_grouped len (the_frames (stack_of stack.old)) (the_call call) here.at here.class) }
 {
@@ -99,7 +99,7 @@ pub(crate) fn by_grouped(stack: &mut Stack, call: Calling, here: Here) -> Result
     }
 }
 
-/// Behind a name.
+/// After a name.
 pub(crate) fn by_name(
     alloc: Global,
     stack: &mut Stack,
@@ -122,7 +122,7 @@ pub(crate) fn by_name(
     }
 }
 
-/// Behind a name that is a selector.
+/// After a name that is a selector.
 fn by_metric(alloc: Global, stack: &mut Stack, head: Heading, here: Here) -> Result<Last, StepError>
     ensures { Steps result (stack_of stack.new) (after_primary (the_frames (stack_of stack.old)) (metric_tree (the_head head)) here.at here.class) }
 {

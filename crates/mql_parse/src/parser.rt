@@ -23,9 +23,10 @@ use mql_expr::Expr;
 use mql_lex::Token;
 use std::alloc::{AllocError, Global};
 
-/// Reads the tokens of a text, which `mql_lex::tokens` gives, as a query. The limits are 100 levels,
-/// numbers of the store and durations below 2^48 ms and 2^48 steps. The first fault in the text is
-/// named. The frames of what is open stand on the heap, so no depth of a text is a danger to the stack.
+/// Reads the tokens of a text, which `mql_lex::tokens` gives, as a query. The limits are 100
+/// levels, numbers of the store and durations below 2^48 ms and 2^48 steps. The first fault in the
+/// text is named. The frames of what is open stand on the heap, so no depth of a text is a danger
+/// to the stack.
 ///
 /// (MetricsQL; PromQL, "Operators", "Binary operator precedence", "Aggregation operators", "Range
 /// Vector Selectors", "Offset modifier"; MetricsQL, "WITH templates")

@@ -79,7 +79,7 @@ pub(crate) fn whole_call(call: Calling, keep: bool) -> Expr
     Expr::call(at, called, args)
 }
 
-/// Behind an expression with all that belongs to it: an operator, `)` or `,`.
+/// After an expression with all that belongs to it: an operator, `)` or `,`.
 pub(crate) fn go_on(
     alloc: Global,
     stack: &mut Stack,
@@ -112,7 +112,7 @@ pub(crate) fn go_on(
     }
 }
 
-/// Behind `)`.
+/// After `)`.
 fn close(stack: &mut Stack, expr: Expr) -> Result<Last, StepError>
     ensures { Steps result (stack_of stack.new) (close_frame (the_frames (stack_of stack.old)) (tree expr)) }
 {
@@ -128,7 +128,7 @@ fn close(stack: &mut Stack, expr: Expr) -> Result<Last, StepError>
     }
 }
 
-/// Behind `,`.
+/// After `,`.
 fn next_item(stack: &mut Stack, expr: Expr) -> Result<Last, StepError>
     ensures { Steps result (stack_of stack.new) (continue_frame (the_frames (stack_of stack.old)) (tree expr)) }
 {

@@ -10,8 +10,8 @@ use vm_base::List;
 /// How many levels may be open at a place.
 pub const MAX_LEVELS: u64 = 100;
 
-/// What is open, each in what stands before it. Contracts see the list of them, the innermost first,
-/// as `stack_of`.
+/// What is open, each in what stands before it. Contracts see the list of them, the innermost
+/// first, as `stack_of`.
 #[derive(Drop)]
 pub(crate) struct Stack {
     // the innermost last

@@ -34,7 +34,7 @@ pub(crate) struct Calling {
 pub(crate) struct Pending {
     pub at: u64,
     pub op: Op,
-    /// Whether `bool` stands behind it.
+    /// Whether `bool` stands after it.
     pub truth: bool,
     pub left: Expr,
 }
@@ -57,7 +57,7 @@ pub(crate) enum Open {
     Adding,
     /// An operator with its modifiers.
     Operating(Pending, Matching),
-    /// `(` behind a name.
+    /// `(` after a name.
     Calling(Calling),
     /// A template's name, its parameters and `=`.
     Defining(Scoping, Heading, List<Param>),
@@ -84,7 +84,7 @@ pub(crate) struct Paired {
     pub many: Many,
 }
 
-/// An expression and the place of the window or the offset behind it.
+/// An expression and the place of the window or the offset after it.
 #[derive(Drop)]
 pub(crate) struct Ranging {
     pub at: u64,
@@ -100,9 +100,9 @@ pub(crate) enum Last {
     Name(Heading),
     /// A call with its group, before its arguments.
     Grouped(Calling),
-    /// A call behind its arguments.
+    /// A call after its arguments.
     Called(Calling),
-    /// A call with the group behind it.
+    /// A call with the group after it.
     Regrouped(Calling),
     /// A word that wants names in parentheses.
     NamesWanted(NamesFor),
@@ -131,7 +131,7 @@ pub(crate) enum Measuring {
     WindowRead(Ranging, Span),
     /// A window.
     Windowed(Ranging, Span),
-    /// `offset` behind an expression, which may have a window.
+    /// `offset` after an expression, which may have a window.
     OffsetWanted(Ranging, Option<Span>),
     /// `offset -`
     OffsetBack(Ranging, Option<Span>),
@@ -141,7 +141,7 @@ pub(crate) enum Measuring {
 #[derive(Drop)]
 pub(crate) enum Joining {
     Operator(Pending),
-    /// Behind which `bool` can't stand any more.
+    /// After which `bool` can't stand any more.
     Compared(Pending),
     /// With `on` or `ignoring` and its names.
     Matched(Paired),

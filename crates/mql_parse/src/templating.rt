@@ -19,7 +19,7 @@ use mql_lists::{Class, ParamsReader, Progress, class_of};
 use std::alloc::Global;
 use vm_base::List;
 
-/// Behind a part of the templates of a `with`.
+/// After a part of the templates of a `with`.
 pub(crate) fn by_templating(
     alloc: Global,
     stack: &mut Stack,
@@ -44,7 +44,7 @@ pub(crate) fn by_templating(
     }
 }
 
-/// Behind `with`.
+/// After `with`.
 #[tactic(auto, using(crate::proofs::Openings::opening_there, crate::proofs::Openings::opening_deep))]
 fn by_with(alloc: Global, stack: &mut Stack, at: u64, class: Class) -> Result<Last, StepError>
     ensures { (len here : ℕ) → here < len → Steps result (stack_of stack.new) (after_with len (the_frames (stack_of stack.old)) at here class) }
@@ -84,7 +84,7 @@ fn by_template(
     }
 }
 
-/// Behind the name of a template.
+/// After the name of a template.
 fn by_template_name(
     alloc: Global,
     stack: &mut Stack,
@@ -103,7 +103,7 @@ fn by_template_name(
     }
 }
 
-/// Behind the name and the parameters of a template.
+/// After the name and the parameters of a template.
 fn by_head(
     stack: &mut Stack,
     scope: Scoping,
@@ -122,7 +122,7 @@ fn by_head(
     }
 }
 
-/// Behind one more word among parameters.
+/// After one more word among parameters.
 fn behind_params(
     scope: Scoping,
     head: Heading,

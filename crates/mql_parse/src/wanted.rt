@@ -86,7 +86,7 @@ pub(crate) fn heading(alloc: Global, text: &str, token: Token) -> Result<Heading
     Ok(Heading { at: token.at, name })
 }
 
-/// Behind a `)` where no argument stands before it.
+/// After a `)` where no argument stands before it.
 fn no_more(stack: &mut Stack) -> Result<Last, StepError>
     ensures { Steps result (stack_of stack.new) (none_more (the_frames (stack_of stack.old))) }
 {

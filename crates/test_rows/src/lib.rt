@@ -1,7 +1,8 @@
-//! How the tables of tests write bytes as text. It stands on std alone, and only crates of tests use it.
+//! How the tables of tests write bytes as text. It stands on std alone, and only crates of tests
+//! use it.
 //!
-//! A table is one text, with a row a line. What a line can't hold is escaped, and `bytes_of` gives the
-//! bytes that are meant. `repeated` also takes a text in which a piece stands many times.
+//! A table is one text, with a row a line. What a line can't hold is escaped, and `bytes_of` gives
+//! the bytes that are meant. `repeated` also takes a text in which a piece stands many times.
 #![tactic(auto)]
 
 mod repeats;
@@ -22,8 +23,8 @@ enum Within {
     Low(u8),
 }
 
-/// The bytes that a text stands for: `\n`, `\r`, `\t`, `\\` and `\xHH` with two digits of base 16 for one
-/// byte each, and any other byte for itself.
+/// The bytes that a text stands for: `\n`, `\r`, `\t`, `\\` and `\xHH` with two digits of base 16
+/// for one byte each, and any other byte for itself.
 pub fn bytes_of(alloc: Global, text: &str) -> Result<Vec<u8>, AllocError> {
     let mut bytes = Vec::new(alloc);
     let mut within = Within::Plain;

@@ -3,9 +3,9 @@
 use crate::bytes_of;
 use std::alloc::{AllocError, Global};
 
-/// The bytes that a text with repeats stands for. It is cut at each `|`. A piece with a number and `*` in
-/// front stands that many times, any other piece once: `3*ab|c` is `abababc`. Each piece may have the
-/// escapes of `bytes_of`.
+/// The bytes that a text with repeats stands for. It is cut at each `|`. A piece with a number and
+/// `*` in front stands that many times, any other piece once: `3*ab|c` is `abababc`. Each piece may
+/// have the escapes of `bytes_of`.
 pub fn repeated(alloc: Global, text: &str) -> Result<Vec<u8>, AllocError> {
     let mut bytes = Vec::new(alloc);
     for part in text.split('|') {

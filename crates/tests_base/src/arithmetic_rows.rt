@@ -1,4 +1,5 @@
-//! Calculations and their results, as `bench/decimals_table.py` works them out with Python's `fractions`.
+//! Calculations and their results, as `bench/decimals_table.py` works them out with Python's
+//! `fractions`.
 
 /// A number, what is done with it, another number, and the text of the result, a row a line.
 pub(crate) const CALCULATIONS: &str = "\

@@ -1,4 +1,4 @@
-//! What `vm_base` stands for: samples and their order, texts, lists, boxes and counts of steps.
+//! `vm_base`: samples and their order, texts, lists, boxes and counts of steps.
 //!
 //! The expected values were worked out by hand.
 ghost use Rattle.std.specs.Prelude.{◌≡◌, ◌+◌, ◌<◌, ◌≤◌, length};
@@ -14,7 +14,7 @@ use vm_base::{Boxed, Broken, List, Sample, Stamped, Steps, Text};
 /// A word, what is given and what is due, by its word:
 ///
 /// - `sample m e -> m e`: the sample that is `m * 10^e` in normal form, `none` where there is none;
-/// - `samples m e|m e -> order`: how the first of two samples stands to the other one;
+/// - `samples m e|m e -> order`: how the first of two samples compares with the other one;
 /// - `texts text|text -> order`: the same of two texts.
 const ROWS: &str = "\
 sample 0 0 -> 0 0
@@ -117,7 +117,7 @@ pub(crate) fn text_of(alloc: Global, text: &str) -> Result<Text, AllocError> {
     Text::from_str(alloc, str::from_utf8(bytes.as_slice()).unwrap_or("no text"))
 }
 
-/// Whether the first value stands so to the other one, by each comparison.
+/// Whether the first value compares so with the other one, by each comparison.
 pub(crate) fn stand<T: Ord>(one: &T, other: &T, due: &str) -> bool {
     let order = match due {
         "less" => Ordering::Less,

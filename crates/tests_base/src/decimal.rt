@@ -1,8 +1,10 @@
-//! Exact decimal numbers: what is calculated, and how numbers are read and written, by `vm_decimal`.
+//! Exact decimal numbers: what is calculated, and how numbers are read and written, by
+//! `vm_decimal`.
 //!
-//! Results of calculations were worked out by Python's `fractions` (`arithmetic_rows.rt`). What texts say
-//! is by Python's `decimal` (`sample_rows.rt` says more), and so are the digits of texts that are
-//! written. The places of faults were found by a regular expression for what begins a number.
+//! Results of calculations were worked out by Python's `fractions` (`arithmetic_rows.rt`). What
+//! texts say is by Python's `decimal` (`sample_rows.rt` says more), and so are the digits of texts
+//! that are written. The places of faults were found by a regular expression for what begins a
+//! number.
 use crate::arithmetic_rows::CALCULATIONS;
 use crate::base::{sample, stand};
 use crate::sample_rows::SAMPLE_TEXTS;
@@ -16,8 +18,8 @@ use vm_decimal::{Dec, NumFault, Range, SampleText, read, read_sample};
 /// - `number m e -> text`: the text of the number `m * 10^e`;
 /// - `of m e -> m e`: the number `m * 10^e` in normal form, `none` where there is none;
 /// - `sample text -> m e`: the sample of the number that a text writes, `none` where there is none;
-/// - `read text -> m e`: the number that a text writes in normal form, or `too wide`, or the place at which
-///   the text is `wrong`.
+/// - `read text -> m e`: the number that a text writes in normal form, or `too wide`, or the place
+///   at which the text is `wrong`.
 const NUMBERS: &str = "\
 written 0 0 -> 0
 written 0 7 -> 0

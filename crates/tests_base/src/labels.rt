@@ -9,8 +9,8 @@ use vm_labels::{LabelFault, Labels, Pair, ReadFault, is_name, name_len};
 
 /// What is done, with what, to which label set, and what is due. A set is pairs as `name=value`.
 ///
-/// `set`, `with`, `only`, `without` and `copy` come to the text of a set, or to why there is none. `json` is
-/// due a set's JSON, `get` the value of a name, and `order` how the set stands to the other one. `read`
+/// `set`, `with`, `only`, `without` and `copy` come to the text of a set, or to why there is none.
+/// `json` is due a set's JSON, `get` the value of a name, and `order` how two sets compare. `read`
 /// is of bytes: they come to the bytes that the set read is written with, which is within the
 /// limits, or to the place where they are broken. `name` and `len` tell names.
 const ROWS: &str = r#"set - c=d\n,x=,__name__="é\\ -> {__name__="\\"é\\\\",c="d\\n"}

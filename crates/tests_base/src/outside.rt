@@ -1,5 +1,5 @@
-//! What the objects of `vm_outside` do: bytes in pieces, calls that fail, and what a crash may leave of a
-//! disk in memory.
+//! What the objects of `vm_outside` do: bytes in pieces, calls that fail, and what a crash may
+//! leave of a disk in memory.
 //!
 //! The expected values were worked out by hand.
 use std::alloc::{AllocError, Global};
@@ -8,11 +8,11 @@ use vm_outside::{
     PatternFault, Patterns, Sink, Source, Unsynced, read_all, write_all, write_and_sync,
 };
 
-/// How many bytes a call moves at most and which calls fail, of a source of `abcdef` or a sink, and what
-/// comes of it:
+/// How many bytes a call moves at most and which calls fail, of a source of `abcdef` or a sink, and
+/// what comes of it:
 ///
-/// - `source`: what six reads of up to four bytes gave, `|` for each that failed, and `.` for each that gave
-///   nothing;
+/// - `source`: what six reads of up to four bytes gave, `|` for each that failed, and `.` for each
+///   that gave nothing;
 /// - `sink`: what the sink took of `abcdef` by `write_all`, and `|` where that failed.
 const STREAMS: &str = "\
 source 18446744073709551615 9,9 -> abcdef....
@@ -27,17 +27,18 @@ sink 1 0 -> |
 sink 2 3 -> abcdef
 ";
 
-/// What is done with a disk and what comes of it, row after row. A row `disk` begins anew: with `abcdef` in
-/// file 1, `xy` in file 2, and these calls failing.
+/// What is done with a disk and what comes of it, row after row. A row `disk` begins anew: with
+/// `abcdef` in file 1, `xy` in file 2, and these calls failing.
 ///
-/// A row names a file, then a place in it, then bytes. `save` writes and syncs, `read` is of up to two bytes,
-/// and `all` reads a whole file. `left` says of contents what a crash after so many calls may leave of
-/// the file: `+` for each that it may, `-` for each that it may not.
+/// A row names a file, then a place in it, then bytes. `save` writes and syncs, `read` is of up to
+/// two bytes, and `all` reads a whole file. `left` says of contents what a crash after so many
+/// calls may leave of the file: `+` for each that it may, `-` for each that it may not.
 ///
-/// On the first disk a write within the file is torn: until a sync that is done there may be any bytes in its
-/// range, and the synced ones elsewhere. A failed sync changes nothing. On the second one a write
-/// over the end fails, and the file is dropped: the length may be any between the synced one and the
-/// greatest since. On the third one files are written, read and measured. What has no bytes is `empty`.
+/// On the first disk a write within the file is torn: until a sync that is done there may be any
+/// bytes in its range, and the synced ones elsewhere. A failed sync changes nothing. On the second
+/// one a write over the end fails, and the file is dropped: the length may be any between the
+/// synced one and the greatest since. On the third one files are written, read and measured. What
+/// has no bytes is `empty`.
 const DISKS: &str = "\
 disk 2 -> ready
 write 1 2 XY -> done
@@ -134,8 +135,8 @@ fn is_taken(sink: &mut MemSink, due: &str) -> bool {
     sink.bytes() == due.as_bytes()
 }
 
-/// The bytes come in order whatever the pieces are, and a call that fails loses none. `write_all` goes on until
-/// all is taken, and stops at the first call that fails.
+/// The bytes come in order whatever the pieces are, and a call that fails loses none. `write_all`
+/// goes on until all is taken, and stops at the first call that fails.
 #[test]
 fn streams(rt: HostRuntime) -> Result<(), AllocError> {
     for row in STREAMS.lines() {

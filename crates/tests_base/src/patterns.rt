@@ -7,8 +7,8 @@ use vm_base::{List, Text};
 use vm_outside::{Pattern, PatternFault, Patterns};
 use vm_patterns::MemPatterns;
 
-/// A pattern, a value, and the texts of groups 0 to 9 of the match, each behind a `;`. A dot is no line feed
-/// unless the pattern says so.
+/// A pattern, a value, and the texts of groups 0 to 9 of the match, each after a `;`. A dot is no
+/// line feed unless the pattern says so.
 const ROWS: &str = r"a|b a ;a;;;;;;;;;
 a|b ab no
 b abc no

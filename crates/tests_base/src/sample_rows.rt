@@ -1,11 +1,11 @@
 //! What texts say of a sample's value.
 //!
-//! The expected numbers are those of Python's `decimal` with a precision of 18, rounding half to even. The
-//! places were found by a regular expression for what begins a number.
+//! The expected numbers are those of Python's `decimal` with a precision of 18, rounding half to
+//! even. The places were found by a regular expression for what begins a number.
 
-/// A text and what it says: `says text -> m e` for the sample `m * 10^e` in normal form, `too wide`, `no
-/// number`, or the place at which it is `wrong`. A text with `|` is a front, a digit, how many times
-/// it stands, and a rear.
+/// A text and what it says: `says text -> m e` for the sample `m * 10^e` in normal form,
+/// `too wide`, `no number`, or the place at which it is `wrong`. A text with `|` is a front, a
+/// digit, how many times it stands, and a rear.
 pub(crate) const SAMPLE_TEXTS: &str = r"says 0 -> 0 0
 says -0 -> 0 0
 says +0 -> 0 0

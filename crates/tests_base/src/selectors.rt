@@ -1,5 +1,5 @@
-//! Which label sets a selector selects, by `vm_match`: each operator over labels that are there and that aren't,
-//! lists, and what can't be built. The rows are by hand.
+//! Which label sets a selector selects, by `vm_match`: each operator over labels that are there and
+//! that aren't, lists, and what can't be built. The rows are by hand.
 
 ghost use Rattle.std.specs.Prelude.{◌≡◌, ◌<◌};
 
@@ -13,9 +13,9 @@ use vm_match::{MatchFault, Matcher};
 use vm_outside::Pattern;
 use vm_patterns::MemPatterns;
 
-/// Selectors, and what a matcher of each tells of `{job="x"}`. A list begins with `{`, and its filters are
-/// parted by commas. The builder takes no text that begins with `(`, and it refuses its twelfth call,
-/// which is for the text `r`.
+/// Selectors, and what a matcher of each tells of `{job="x"}`. A list begins with `{`, and its
+/// filters are parted by commas. The builder takes no text that begins with `(`, and it refuses its
+/// twelfth call, which is for the text `r`.
 const ROWS: &str = "\
 {job = x -> yes
 {job = y -> no
@@ -121,7 +121,8 @@ fn filters_of(alloc: Global, text: &str) -> Result<List<Filter>, AllocError> {
     Ok(filters)
 }
 
-/// Each row comes to what is expected of it, and what is refused is counted. A matcher keeps its selector.
+/// Each row comes to what is expected of it, and what is refused is counted. A matcher keeps its
+/// selector.
 #[test]
 fn rows(rt: HostRuntime) -> Result<(), AllocError> {
     let failing = Vec::from_array(rt.alloc(), [11])?;

@@ -1,8 +1,8 @@
-//! Texts that are no query, and what is wrong with queries, worked out by hand from the grammar and the rules in
-//! `docs/query-language.md`.
+//! Texts that are no query, and what is wrong with queries, worked out by hand from the grammar and
+//! the rules in `docs/query-language.md`.
 
-/// A text that is no query, ` => `, its fault and the fault's place, a row a line. A line without an arrow is a heading.
-/// There are 146 rows.
+/// A text that is no query, ` => `, its fault and the fault's place, a row a line. A line without
+/// an arrow is a heading. There are 146 rows.
 pub(crate) const FAULTS: &str = r##"# texts that end too early
   # only a comment => unexpected 18
 a + => unexpected 3
@@ -158,8 +158,8 @@ a offset -281474976710656ms => too wide 10
 1e1001 1e1001 => too wide 0
 1e1001 + => too wide 0"##;
 
-/// A query, ` => `, and the fault that `check` finds, or `right`, a row a line. A line without an arrow is a heading.
-/// There are 125 rows.
+/// A query, ` => `, and the fault that `check` finds, or `right`, a row a line. A line without an
+/// arrow is a heading. There are 125 rows.
 pub(crate) const CHECKS: &str = r##"# each function over a window
 default_rollup(a[5m]) => right
 last_over_time(a) => right

@@ -1,5 +1,5 @@
-//! `mql_lex`: texts and their tokens, worked out by hand from the grammar in `docs/query-language.md`. Places
-//! and lengths count bytes.
+//! `mql_lex`: texts and their tokens, worked out by hand from the grammar in
+//! `docs/query-language.md`. Places and lengths count bytes.
 
 use mql_lex::{LexFault, Token, TokenKind, tokens};
 use std::alloc::{AllocError, Global};
@@ -8,8 +8,9 @@ use std::test::Fail;
 use test_rows::repeated;
 use vm_base::List;
 
-/// A text ` -> ` its tokens, each as its kind, its text and its place, or `none`, or the fault. A kind is
-/// `n` for a name, `#` for a number, `d` for a duration, `s` for a string and `m` for a mark.
+/// A text ` -> ` its tokens, each as its kind, its text and its place, or `none`, or the fault. A
+/// kind is `n` for a name, `#` for a number, `d` for a duration, `s` for a string and `m` for a
+/// mark.
 const ROWS: &str = r##"# a b -> none
 "#" -> s"#"@0
 a -> na@0
@@ -101,8 +102,8 @@ a@b -> bad 1
 sum by(job)(rate(m[5m]))-1 -> nsum@0 nby@4 m(@6 njob@7 m)@10 m(@11 nrate@12 m(@16 nm@17 m[@18 d5m@19 m]@21 m)@22 m)@23 m-@24 #1@25
 foo{a="b",c!~'d|e'} offset -1h # last hour -> nfoo@0 m{@3 na@4 m=@5 s"b"@6 m,@9 nc@10 m!~@11 s'd|e'@13 m}@18 noffset@20 m-@27 d1h@28"##;
 
-/// As `ROWS`, with texts as `repeated` takes them: white space, control characters, and texts at the greatest
-/// length and above. `0*.` is an empty text.
+/// As `ROWS`, with texts as `repeated` takes them: white space, control characters, and texts at
+/// the greatest length and above. `0*.` is an empty text.
 const ESCAPED: &str = r##"0*. -> none
  \t\r\n -> none
 #\n#\n -> none

@@ -10,8 +10,8 @@ use test_rows::bytes_of;
 use vm_base::{List, Text};
 use vm_labels::FilterOp;
 
-/// A reader, the text behind the opening bracket ` -> ` what is read: the names, the parameters with their
-/// places, or each list of items, in brackets, or `-`. Texts have the escapes of `bytes_of`.
+/// A reader, the text after the opening bracket ` -> ` what is read: the names, the parameters with
+/// their places, or each list of items, in brackets, or `-`. Texts have the escapes of `bytes_of`.
 const ROWS: &str = r#"names ) -> []
 names job) -> [ job]
 names job, instance) -> [ job instance]

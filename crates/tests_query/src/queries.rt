@@ -1,6 +1,6 @@
-//! `mql_parse`, and `check` and `print` of `mql_expr`: what texts come to, worked out by hand from the grammar
-//! and the rules in `docs/query-language.md`. Texts at the limits, and as deep as they can be, are read, checked,
-//! printed and dropped on the stack that a program begins with.
+//! `mql_parse`, and `check` and `print` of `mql_expr`: what texts come to, worked out by hand from
+//! the grammar and the rules in `docs/query-language.md`. Texts at the limits, and as deep as they
+//! can be, are read, checked, printed and dropped on the stack that a program begins with.
 
 use crate::fault_rows::{CHECKS, FAULTS};
 use crate::query_rows::QUERIES;
@@ -12,10 +12,10 @@ use std::str::from_utf8;
 use std::test::Fail;
 use test_rows::repeated;
 
-/// `read`, a text ` => ` its canonical text or its fault, or `check`, a text ` => ` what `check` finds. Texts are
-/// as `repeated` takes them: blanks and comments, line feeds and tabs in strings, a hundred levels and one more,
-/// signs, of which more than 50 have a canonical text with too many levels to be read, the longest text, and as
-/// many bodies in bodies as a text can hold.
+/// `read`, a text ` => ` its canonical text or its fault, or `check`, a text ` => ` what `check`
+/// finds. Texts are as `repeated` takes them: blanks and comments, line feeds and tabs in strings,
+/// a hundred levels and one more, signs, of which more than 50 have a canonical text with too many
+/// levels to be read, the longest text, and as many bodies in bodies as a text can hold.
 const ESCAPED: &str = r#"read \r\n\ta\t+\r\nb \n => a + b
 read a + b => a + b
 read a # b\n+ c => a + c
@@ -79,7 +79,7 @@ unless
 < bool
 > bool";
 
-/// What may stand behind any operator, in canonical form. The first line is no modifier.
+/// What may stand after any operator, in canonical form. The first line is no modifier.
 const MODIFIERS: &str = "
 on()
 on(x)

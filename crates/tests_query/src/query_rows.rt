@@ -1,7 +1,8 @@
 //! Queries and their canonical texts, worked out by hand from the grammar and the rules in
 //! `docs/query-language.md`.
 
-/// A text, ` => `, and its canonical text, a row a line. A line without an arrow is a heading. There are 180 rows.
+/// A text, ` => `, and its canonical text, a row a line. A line without an arrow is a heading.
+/// There are 180 rows.
 pub(crate) const QUERIES: &str = r##"# numbers
 10 => 10
 007 => 7

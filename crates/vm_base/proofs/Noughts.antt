@@ -1,4 +1,4 @@
--- Sizes with noughts after them.
+-- Sizes with zeros after them.
 use Rattle.std.proofs.Common.{◌≡◌, ℕ, ◌+◌, ◌-◌, ◌*◌, ◌/◌, ◌%◌, ◌^◌, ◌<◌, ◌≤◌, ap, sym, ◌∙◌, ⊎_elim, arith, add-one, pow-add, Greater}
 use Rattle.std.proofs.Math.Nat.{pow-le-pow_right, mul-le-mul_right, mul-lt-mul_of_pos_right, mul_assoc}
 use Rattle.std.proofs.lemmas.Bool.{cases_lt, cases_order}
@@ -6,7 +6,7 @@ use Rattle.std.proofs.lemmas.Bool.Decides.{nat_tests}
 use Rattle.std.specs.Ordering.{nat_cmp}
 use Rattle.vm_base.specs.Form.{ten_pos, tens}
 
--- one nought goes from the size to the noughts
+-- one zero goes from the size to the zeros
 pub one_nought_off : (whole size noughts : ℕ) → whole ≡ size * 10 ^ noughts → size % 10 ≡ 0
     → whole ≡ size / 10 * 10 ^ (noughts + 1)
 one_nought_off whole size noughts is last =
@@ -15,7 +15,7 @@ one_nought_off whole size noughts is last =
     ap (λ n. n * 10 ^ noughts) ten in
     rw add-one (omega (arith, moved, tens (size / 10) noughts))
 
--- as many noughts or more make a size as great or greater
+-- as many zeros or more make a size as great or greater
 more_noughts : (size few noughts : ℕ) → 0 < size → few ≤ noughts
     → 1 * 10 ^ few ≤ size * 10 ^ noughts
 more_noughts size few noughts some more =
@@ -24,7 +24,7 @@ more_noughts size few noughts some more =
     mul-le-mul_right {m = 1} {n = size} (10 ^ noughts) (omega arith) in
     omega arith
 
--- a size of 64 bits has fewer than 20 noughts at its end
+-- a size of 64 bits has fewer than 20 zeros at its end
 pub few_noughts : (size noughts : ℕ) → 0 < size → size * 10 ^ noughts < 2 ^ 64 → noughts < 20
 few_noughts size noughts some fits =
     ⊎_elim
@@ -32,7 +32,7 @@ few_noughts size noughts some fits =
     (λ many. absurd (omega (arith, more_noughts size 20 noughts some many)))
     (cases_lt noughts 20)
 
--- with 18 noughts or more after it, a size is above each one of at most 18 digits
+-- with 18 zeros or more after it, a size is above each one of at most 18 digits
 pub far_above : (size gap other : ℕ) → 0 < size → 18 ≤ gap → other < 10 ^ 18
     → Greater ≡ nat_cmp (size * 10 ^ gap) other
 far_above size gap other some far few =

@@ -38,7 +38,7 @@ pub nonzero : (size : ℕ) → (size % 10 ≡ 0 → ⊥) → 0 < size
 nonzero zero last = absurd (last refl)
 nonzero (suc size) last = omega arith
 
--- noughts
+-- zeros
 
 -- what is stripped of a number is the number's
 pub stripped_whole : (more size : ℕ)
@@ -55,7 +55,7 @@ stripped_whole (suc more) size =
     (λ last. rw (stripped-last more size last) (omega arith))
     (cases_eq (size % 10) 0)
 
--- where there may be as many noughts as there are digits, no nought is left
+-- where there may be as many zeros as there are digits, no zero is left
 pub stripped_last : (more size : ℕ) → 0 < size → size < 10 ^ more
     → (stripped more size).0 % 10 ≡ 0 → ⊥
 stripped_last zero size some few end = omega arith
@@ -68,7 +68,7 @@ stripped_last (suc more) size some few end =
     (λ last. last (sym (ap (λ p. p.0 % 10) (stripped-last more size last)) ∙ end))
     (cases_eq (size % 10) 0)
 
--- nor where there may be more noughts than were found
+-- nor where there may be more zeros than were found
 pub stripped_end : (more size : ℕ) → (stripped more size).1 < more
     → (stripped more size).0 % 10 ≡ 0 → ⊥
 stripped_end zero size short end = absurd (omega arith)
@@ -81,7 +81,7 @@ stripped_end (suc more) size short end =
     (λ last. last (sym (ap (λ p. p.0 % 10) (stripped-last more size last)) ∙ end))
     (cases_eq (size % 10) 0)
 
--- there are fewer noughts than digits
+-- there are fewer zeros than digits
 pub stripped_few : (more size digits : ℕ) → 0 < size → size < 10 ^ digits
     → (stripped more size).1 < digits
 unfolding stripped
@@ -104,7 +104,7 @@ stripped_few (suc more) size (suc digits) some few =
 
 -- normal forms
 
--- a number without its noughts, and how many they are
+-- a number without its zeros, and how many they are
 abbrev pub bare : ℤ → ℕ × ℕ
 bare z = stripped 2001 (unsigned_abs z)
 
@@ -162,7 +162,7 @@ scaled-up minus size shift e is =
     let yes : int_le (pos 0) (e +ℤ pos 1000) ≡ true = rw is (grind (arith, nat_tests)) in
     rw (yes, is) (ap Some (signed_times minus size (10 ^ shift)))
 
--- and below that: none, where the noughts don't suffice
+-- and below that: none, where the zeros don't suffice
 pub scaled-down : (minus : Bool) (size down : ℕ) (e : ℤ) → e +ℤ pos 1000 ≡ negsuc down
     → scaled (signed minus size) e
     ≡ (if size % 10 ^ suc down == 0 then Some (signed minus (size / 10 ^ suc down)) else None)

@@ -37,7 +37,7 @@ module _ {A : Type 0} (L : List A → Type 0) where
       (λ after. let within = first.within in first.short (omega arith) is)
       (cases_lt at (length text))
 
-  -- behind a first wrong place nothing goes on
+  -- after its first wrong place a text begins no text of the language
   pub none_further : (text : List A) (at far : ℕ) → FirstWrong L text at → at < far → far ≤ length text
       → Begins L (take far text) → ⊥
   none_further text at far first behind within goes =

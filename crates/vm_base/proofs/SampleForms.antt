@@ -59,7 +59,7 @@ other_sign false false h is = cc
 other_sign true false h is = cc
 other_sign false true h is = cc
 
--- a number below zero stands before one that isn't
+-- a number below zero comes before one that isn't
 opposite : (n m : ℕ) → 0 < n
     → (Less ≡ int_cmp (neg_ℤ (pos n)) (pos m)) × (Greater ≡ int_cmp (pos m) (neg_ℤ (pos n)))
 opposite zero m some = absurd (omega arith)

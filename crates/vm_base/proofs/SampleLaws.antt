@@ -147,13 +147,13 @@ small_quotient minus size by some few divides whole =
     let below : size / by ≤ size / by * by = le-mul_of_pos_right (size / by) divides in
     is_sample-small (signed minus (size / by)) (omega arith) (omega arith)
 
--- noughts of the size and noughts of the shift
+-- zeros of the size and zeros of the shift
 noughts_add : (size noughts shift : ℕ)
     → size * 10 ^ noughts * 10 ^ shift ≡ size * 10 ^ (noughts + shift)
 noughts_add size noughts shift =
     mul_assoc size (10 ^ noughts) (10 ^ shift) ∙ ap (λ n. size * n) (sym (pow-add 10 noughts shift))
 
--- a size that doesn't end with 0, and noughts after it, fewer than 20 digits together
+-- a size that doesn't end with 0, and zeros after it, fewer than 20 digits together
 module _ (minus : Bool) (size noughts : ℕ) (last : size % 10 ≡ 0 → ⊥)
     (few : size * 10 ^ noughts < 10 ^ 20) (short : noughts < 20) where
   by_place : (e shift place : ℤ) → shift ≡ e +ℤ pos (1000 + noughts) → e +ℤ pos 1000 ≡ place

@@ -133,7 +133,7 @@ module _ {X : Type 0} (le : X → X → Bool) (order : IsOrder le) where
             ∙ later-assoc (passed x) (passed y) (last_passed ys)
             ∙ ap (later le (passed x)) (sym (last-cons y ys up.0))
 
-    -- of two lists in order one behind the other, the last item that passes is the later of theirs
+    -- of two lists in order one after the other, the last item that passes is the later of theirs
     pub last_sorted_append : (xs ys : List X)
         → last_of (filter p (sorted le (xs ++ ys)))
         ≡ later le (last_of (filter p (sorted le xs))) (last_of (filter p (sorted le ys)))
@@ -198,7 +198,7 @@ module _ {X : Type 0} (le : X → X → Bool) where
             (counts-swap y x ys)
       ]
 
-  -- `sorted` keeps how often each item stands there
+  -- `sorted` keeps how often each item is in the list
   pub counts-sorted : (xs : List X) → SameCounts (sorted le xs) xs
   counts-sorted [] = λ p. refl
   counts-sorted (x ∷ xs) =

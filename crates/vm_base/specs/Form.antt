@@ -11,7 +11,7 @@ use Rattle.vm_base.specs.Sample.{IsSampleForm}
 pub ten_pos : (k : ℕ) → 0 < 10 ^ k
 ten_pos k = omega (arith, one-le-pow k 10 (omega arith))
 
--- one nought more
+-- one zero more
 pub tens : (a k : ℕ) → a * 10 ^ suc k ≡ 10 * (a * 10 ^ k)
 tens a k = omega (arith, ap (λ n. a * n) (pow-suc 10 k))
 
@@ -33,7 +33,7 @@ stripped-ten more n =
     let rest : 10 * n / 10 ≡ n = omega arith in
     rw (stripped-nought more (10 * n) (omega arith), rest) refl
 
--- stripping takes off the noughts after a number that doesn't end with 0
+-- stripping takes off the zeros after a number that doesn't end with 0
 pub stripped_is : (more a k : ℕ) → (a % 10 ≡ 0 → ⊥) → k ≤ more → stripped more (a * 10 ^ k) ≡ (a, k)
 unfolding stripped
 stripped_is zero a zero last few = ap (λ n. (n, 0)) (omega arith)
@@ -46,7 +46,7 @@ stripped_is (suc more) a (suc k) last few =
     let rest : stripped more (a * 10 ^ k) ≡ (a, k) = stripped_is more a k last (omega arith) in
     rw (tens a k, stripped-ten more (a * 10 ^ k), rest) (ap (λ n. (a, n)) (omega arith))
 
--- stripping takes off no more noughts than it may
+-- stripping takes off no more zeros than it may
 pub stripped_far : (more a k : ℕ) → more ≤ k → (stripped more (a * 10 ^ k)).1 ≡ more
 unfolding stripped
 stripped_far zero a k far = refl
@@ -98,6 +98,7 @@ form_of-number minus (suc size) shift short plus here near =
     form_of-other (number minus (suc size) shift) minus (suc size) shift (omega arith)
     (is_negative-signed minus whole some) (ap (λ n. stripped 2001 n) abs ∙ form)
 
+-- the same of a form within the limits of a sample's
 pub form_of-sample : (minus : Bool) (size shift : ℕ) → IsSampleForm minus size shift
     → form_of (number minus size shift) ≡ record { negative = minus; size = size; shift = shift }
 form_of-sample minus size shift is =

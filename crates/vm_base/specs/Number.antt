@@ -20,19 +20,19 @@ scaled m e =
     if int_le (pos 0) (e +ℤ pos 1000) then Some (m *ℤ tens)
     else (if int_eq (int_rem m tens) (pos 0) then Some (int_div m tens) else None)
 
--- a number without its noughts at the end, at most so many, and how many those are
+-- a number without its zeros at the end, at most so many, and how many those are
 unfoldable pub stripped : ℕ → ℕ → ℕ × ℕ
 stripped zero n = (n, 0)
 stripped (suc more) n =
     if n % 10 == 0 then ((stripped more (n / 10)).0, (stripped more (n / 10)).1 + 1) else (n, 0)
 
--- a number in normal form: its mantissa, which has no nought at its end, and its exponent plus 1000
+-- a number in normal form: its mantissa, which has no zero at its end, and its exponent plus 1000
 pub record Form : Type 0 where
   pub negative : Bool
   pub size : ℕ
   pub shift : ℕ
 
--- the normal form of a number; more than 2001 noughts at its end are in reach of none
+-- the normal form of a number; no number in reach has more than 2001 zeros at its end
 unfoldable pub form_of : ℤ → Form
 form_of z =
     if unsigned_abs z == 0 then record { negative = false; size = 0; shift = 1000 }

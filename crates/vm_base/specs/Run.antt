@@ -15,7 +15,7 @@ result step final s text = option_and_then final (run step s text)
 abbrev pub IsRead : {S A T : Type 0} → (S → A → Option S) → (S → Option T) → S → List A → Type 0
 IsRead {T = T} step final s text = (t : T) × (result step final s text ≡ Some t)
 
--- the same of the text behind one symbol, and places counted from there
+-- the same of the text after one symbol, and places counted from there
 abbrev pub behind_one : {T : Type 0} → Result T ℕ → Result T ℕ
 behind_one (Ok t) = Ok t
 behind_one (Err at) = Err (suc at)

@@ -11,7 +11,7 @@
 //! list is, and `proofs/SortedLaws.antt` has the laws of it that other crates cite.
 //! `specs/Number.antt` says what a decimal number is, and `specs/Rounding.antt` what a rounded
 //! quotient is. `specs/FirstWrong.antt` says where a text leaves a language, and `specs/Run.antt`
-//! what a machine reads that takes one symbol a turn: the readers of other crates are such machines.
+//! what a machine reads, one symbol a step: the readers of other crates are such machines.
 #![tactic(auto)]
 
 mod boxed;

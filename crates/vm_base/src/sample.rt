@@ -16,8 +16,8 @@ const ONES: i32 = 1000;
 /// The value of a sample: a decimal number of at most 18 digits whose exponent of ten lies from
 /// -350 to 350 in normal form. A contract sees it as the whole number of units of 10^-1000.
 ///
-/// In normal form the mantissa doesn't end with 0, and zero is 0 with the exponent 0. So each number
-/// has one form, and equal numbers are equal.
+/// In normal form the mantissa doesn't end with 0, and zero is 0 with the exponent 0. So each
+/// number has one form, and equal numbers are equal.
 #[derive(Clone, Copy, Debug)]
 pub struct Sample {
     // the number is `size * 10^(shift - 1000)` or that below zero
@@ -51,8 +51,8 @@ impl Sample {
         negative: false,
     };
 
-    /// `m * 10^e`, none exactly where that number has more than 18 digits or an exponent outside -350
-    /// to 350 in normal form.
+    /// `m * 10^e`, none exactly where that number has more than 18 digits or an exponent outside
+    /// -350 to 350 in normal form.
     pub fn of(m: i64, e: i16) -> Option<Sample>
         ensures { result ≡ sample_of m e }
     {
@@ -102,7 +102,7 @@ impl Sample {
     }
 }
 
-/// The shift of a number whose last digit counts `10^e` as long as these noughts stand after it.
+/// The shift of a number whose last digit counts `10^e` as long as these zeros stand after it.
 fn shift_of(e: i16, noughts: u16) -> i32
     ensures { result ≡ e +ℤ pos (1000 + noughts) }
 {

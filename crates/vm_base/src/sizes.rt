@@ -1,4 +1,4 @@
-//! Sizes of numbers with noughts after them.
+//! Sizes of numbers with zeros after them.
 ghost use Rattle.std.specs.Prelude.{◌≡◌, ◌*◌, ◌%◌, ◌^◌, ◌<◌};
 ghost use Rattle.std.specs.Ordering.{nat_cmp};
 
@@ -12,7 +12,7 @@ pub(crate) struct Scaled {
     pub(crate) shift: u16,
 }
 
-/// The size without the noughts at its end, and how many these are.
+/// The size without the zeros at its end, and how many these are.
 pub(crate) fn without_noughts(size: u64) -> (u64, u16)
     requires { 0 < size }
     ensures whole { size ≡ result.0 * 10 ^ result.1 }

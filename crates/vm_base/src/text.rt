@@ -31,6 +31,7 @@ impl Text {
         }
     }
 
+    /// A text with the content of a `str`.
     pub fn from_str(alloc: Global, text: &str) -> Result<Text, AllocError>
         ensures { IfOk result (λ copy. copy ≡ text.now) }
     {
@@ -46,6 +47,7 @@ impl Text {
         self.chars.as_str()
     }
 
+    /// A copy of the text.
     pub fn copy(&self, alloc: Global) -> Result<Text, AllocError>
         ensures { IfOk result (λ copy. copy ≡ self.now) }
     {
@@ -59,6 +61,7 @@ impl Text {
         self.chars.len()
     }
 
+    /// Whether the text has no bytes.
     pub fn is_empty(&self) -> bool
         ensures { IsTrue result ↔ (self.now ≡ []) }
     {

@@ -11,8 +11,9 @@ enum Operation {
     Divide,
 }
 
-/// Calls the operation on each pair, in all rounds, and gives how many calls had an answer that counts: a number, a
-/// pair that rises, or a byte that is written. Nothing where no operation has this name.
+/// Calls the operation on each pair, in all rounds, and gives how many calls had an answer that
+/// counts: a number, a pair that rises, or a byte that is written. Nothing where no operation has
+/// this name.
 pub(crate) fn calculate(
     alloc: Global,
     input: &[u8],

@@ -21,9 +21,10 @@ const TIMES: [u64; 5] = [
 /// The file of the part.
 const FILE: u64 = 2;
 
-/// Makes parts of five batches of the lines, one part of these, opens its file, looks a thousand labels up a thousand
-/// times in each round, and copies the file a hundred times. Tells how many bytes the file has, how many series were
-/// found, and how many microseconds each of the five took. Nothing where the lines have no rows.
+/// Makes parts of five batches of the lines, one part of these, opens its file, looks a thousand
+/// labels up a thousand times in each round, and copies the file a hundred times. Tells how many
+/// bytes the file has, how many series were found, and how many microseconds each of the five took.
+/// Nothing where the lines have no rows.
 pub(crate) fn run<C: Clock>(
     clock: &C,
     alloc: Global,

@@ -5,8 +5,9 @@ use mql_lex::tokens;
 use mql_parse::parse;
 use std::alloc::{AllocError, Global};
 
-/// Reads each line as a query, prints it and checks it, in all rounds. Gives how many lines are queries, how many of
-/// these have no fault, and how many bytes their canonical texts have. An input that isn't UTF-8 has none.
+/// Reads each line as a query, prints it and checks it, in all rounds. Gives how many lines are
+/// queries, how many of these have no fault, and how many bytes their canonical texts have. An
+/// input that isn't UTF-8 has none.
 pub(crate) fn read_and_print(
     alloc: Global,
     input: &[u8],

@@ -85,7 +85,7 @@ moved_broken coding first one count len bytes others at first_is len_is bytes_ar
 
 -- ---- one place
 
--- A break, part by part: a column breaks, or it says some values and what stands behind it breaks.
+-- A break, part by part: a column breaks, or it says some values and what stands after it breaks.
 abbrev Exponent : BlockHeader → List ℤ → ℕ → Type 0
 Exponent h ms at =
     ((are_values h.exponent (map (scaled_by h.exponent) ms) ≡ false) × (at ≡ 4))

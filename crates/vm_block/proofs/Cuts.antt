@@ -71,7 +71,7 @@ first_taken [] (suc n) some = refl
 first_taken (s ∷ rest) zero some = absurd (omega arith)
 first_taken (s ∷ rest) (suc n) some = refl
 
--- a block and the sample behind it
+-- a block and the sample after it
 behind_block : (rest : List Stamped) (n : ℕ) → take n rest ++ take 1 (drop n rest) ≡ take (n + 1) rest
 behind_block rest n = sym (take-add n 1 rest)
 

@@ -226,7 +226,7 @@ joins values others one two is other =
         turned : (x y : ℕ) → max x y ≡ max y x
         turned x y = omega arith
 
--- 18 noughts or more are too many
+-- 18 zeros or more are too many
 pub far_raised : (size noughts : ℕ) → 0 < size → 18 ≤ noughts
     → None ≡ (if nat_lt (size * 10 ^ noughts) (10 ^ 18) then Some (size * 10 ^ noughts) else None)
 far_raised size noughts some far =

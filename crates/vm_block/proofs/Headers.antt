@@ -196,7 +196,7 @@ field_bytes bytes len at are all fits i =
       | inr past ↦ rw (get_or_past (field len at bytes) i 0 (omega (arith, field_len bytes len at all fits))) (omega arith)
     ]
 
--- a front and the field behind it
+-- a front and the field after it
 front_more : (bytes : List ℕ) (at len end : ℕ) (front its : List ℕ) → at + len ≡ end → take at bytes ≡ front → field len at bytes ≡ its
     → take end bytes ≡ front ++ its
 front_more bytes at len end front its is before field =
@@ -268,7 +268,7 @@ one_header bytes h other one two = λ i. record {
 
 -- ---- writing
 
--- a field written behind a front
+-- a field written after a front
 pub front_put : (before after : List ℕ) (at end : ℕ) (front its field : List ℕ) → take (at + length field) after ≡ take at before ++ field
     → field ≡ its → at + length its ≡ end → take at before ≡ front → take end after ≡ front ++ its
 front_put before after at end front its field put is len stood =

@@ -67,7 +67,7 @@ shift_below z m shift m_is some least =
     let both : min shift (form_of z).shift ≡ shift = cc in
     omega arith
 
--- noughts behind the mantissa, which leave it 18 digits
+-- zeros after the mantissa, which leave it 18 digits
 raised_whole : (size gap shift high : ℕ) → gap + shift ≡ high → size * 10 ^ gap * 10 ^ shift ≡ size * 10 ^ high
 raised_whole size gap shift high is =
     mul_assoc size (10 ^ gap) (10 ^ shift) ∙ ap (λ n. size * n) (sym (pow-add 10 gap shift) ∙ ap (λ n. 10 ^ n) is)

@@ -14,7 +14,7 @@ use Rattle.vm_block.specs.Reading.{never_falls}
 
 -- ---- order
 
--- what stands behind a later sample stands behind an earlier one
+-- what stands after a later sample stands after an earlier one
 behind_all : (first next : Stamped) (samples : List Stamped) → is_in_order first next ≡ true
     → AllByRecursion (λ s. is_in_order next s ≡ true) samples → AllByRecursion (λ s. is_in_order first s ≡ true) samples
 behind_all first next [] before all = tt

@@ -16,9 +16,11 @@ use Rattle.vm_block.specs.declared.fault.BlockFault.TheVariants.{Broken, Memory}
 
 -- ---- samples
 
+-- the times of samples
 abbrev pub times_of : List Stamped → List ℤ
 times_of samples = map (λ s. pos s.time) samples
 
+-- the values of samples
 abbrev pub values_of : List Stamped → List ℤ
 values_of samples = map (λ s. s.value) samples
 
@@ -48,11 +50,12 @@ abbrev pub least_shift : List ℤ → Option ℕ
 least_shift [] = None
 least_shift (z ∷ more) = lesser (own_shift z) (least_shift more)
 
--- The exponent of a block of values, which loses no digit: the least one of those that aren't zero, and
--- 0 where all are.
+-- The exponent of a block of values, which loses no digit: the least one of those that aren't zero,
+-- and 0 where all are.
 abbrev pub common_shift : List ℤ → ℕ
 common_shift values = unwrap_or (least_shift values) 1000
 
+-- the same as an exponent of ten: a shift of 1000 is the exponent 0
 abbrev pub common_exponent : List ℤ → ℤ
 common_exponent values = pos (common_shift values) -ℤ pos 1000
 
@@ -108,7 +111,7 @@ pub data BreaksAt (h : BlockHeader) (body : List ℕ) (at : ℕ) : Type 0 where
       → SaysMantissas h body mantissas → values_of samples ≡ map (scaled_by h.exponent) mantissas
       → are_values h.exponent (values_of samples) ≡ true → (IsUp is_in_order samples → ⊥) → at ≡ 24 → BreaksAt h body at
 
--- what a reader answers: nothing is said of want of memory
+-- what a reader answers: nothing is said where memory ran out
 abbrev pub IsRefusal : BlockHeader → List ℕ → BlockFault → Type 0
 IsRefusal h body Memory = ⊤
 IsRefusal h body (Broken at) = BreaksAt h body at

@@ -6,8 +6,8 @@ use Rattle.vm_base.specs.Stamped.{is_in_order}
 use Rattle.vm_base.specs.declared.stamped.Stamped.{Stamped}
 use Rattle.vm_block.specs.Block.{common_shift, values_of}
 
--- a value's mantissa has at most 18 digits at this exponent, which counts from -1000: a value is counted
--- in units of 10^-1000, so it lies below 10^18 times 10^shift of them
+-- a value's mantissa has at most 18 digits at this exponent, which counts from -1000: a value is
+-- counted in units of 10^-1000, so it lies below 10^18 times 10^shift of them
 abbrev pub has_18_digits : ℕ → ℤ → Bool
 has_18_digits shift z = nat_lt (unsigned_abs z) (10 ^ (18 + shift))
 
@@ -37,8 +37,8 @@ AreFull [] = ⊤
 AreFull (block ∷ []) = ⊤
 AreFull (block ∷ next ∷ more) = (fit_one_block (block ++ take 1 next) ≡ false) × AreFull (next ∷ more)
 
--- The blocks of samples: one after the other they are the samples, each has some samples and fits, and
--- each ends only where it must.
+-- The blocks of samples: one after the other they are the samples, each has some samples and fits,
+-- and each ends only where it must.
 pub record IsCut (samples : List Stamped) (blocks : List (List Stamped)) : Type 0 where
   pub whole : joined blocks ≡ samples
   pub each : AllByRecursion (λ block. (1 ≤ length block) × (fit_one_block block ≡ true)) blocks

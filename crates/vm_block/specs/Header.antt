@@ -1,4 +1,5 @@
--- The header of a block: the rules of its fields, its 40 bytes, and the first field that breaks its rule.
+-- The header of a block: the rules of its fields, its 40 bytes, and the first field that breaks its
+-- rule.
 use Rattle.std.specs.Prelude.{◌≡◌, ℕ, ◌^◌, ◌==◌, ◌&&◌, nat_le, nat_lt, ℤ, pos, negsuc, int_le, Bool, true, List, [], ◌∷◌, ◌++◌, take, drop, slice_index, Option, Some, None, is_some, if◌then◌else◌}
 use Rattle.std.specs.Int.{w16, w32, w64, from_be_bytes, to_be_bytes, cast_signed, cast_unsigned}
 use Rattle.vm_codec.specs.Coding.{coding_number, coding_of, in_bounds}
@@ -18,7 +19,7 @@ is_exponent e = int_le (negsuc 349) e && int_le e (pos 350)
 abbrev pub is_time : ℕ → Bool
 is_time time = nat_lt time (2 ^ 48)
 
--- of the last time, behind the first one
+-- of the last time, which isn't below the first one
 abbrev pub is_last_time : ℕ → ℕ → Bool
 is_last_time first last = is_time last && nat_le first last
 
@@ -38,8 +39,8 @@ pub record IsHeader (h : BlockHeader) : Type 0 where
 
 -- ---- bytes
 
--- The bytes of a header: its fields in order, each number with its highest byte first, and a signed one
--- in two's complement.
+-- The bytes of a header: its fields in order, each number with its highest byte first, and a signed
+-- one in two's complement.
 unfoldable pub header_bytes : BlockHeader → List ℕ
 header_bytes h =
     to_be_bytes w16 h.count ++ coding_number h.times ∷ coding_number h.values ∷ []
@@ -54,8 +55,8 @@ header_bytes h =
 abbrev pub field : ℕ → ℕ → List ℕ → List ℕ
 field len at bytes = take len (drop at bytes)
 
--- The place of each field, and whether the field keeps its rule: the lengths of the columns, which stand
--- last, and all of them.
+-- The place of each field, and whether the field keeps its rule: the lengths of the columns, which
+-- stand last, and all of them.
 abbrev pub len_rules : List ℕ → List (ℕ × Bool)
 len_rules bytes =
     (32, is_column_len (from_be_bytes w32 (field 4 32 bytes)))

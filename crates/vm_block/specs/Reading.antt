@@ -40,7 +40,8 @@ pub record AreStamped (e : ℤ) (ts ms : List ℤ) (samples : List Stamped) : Ty
   pub values : values_of samples ≡ map (scaled_by e) ms
   pub are : list_all is_sample (map (scaled_by e) ms) ≡ true
 
--- why a column gives no values: nothing is said of want of memory, and its bytes break within them or at their end
+-- why a column gives no values: nothing is said where memory ran out, and its bytes break within
+-- them or at their end
 abbrev pub IsColumnFault : Coding → ℤ → ℕ → List ℕ → BlockFault → Type 0
 IsColumnFault coding first count bytes Memory = ⊤
 IsColumnFault coding first count bytes (Broken at) = IsBroken coding first count bytes at × (at ≤ length bytes)
@@ -63,20 +64,20 @@ pub record IsShared (values : List ℤ) (shared : Shared) : Type 0 where
   pub greatest : shared.greatest * 10 ^ shared.shift ≡ greatest_size values
   pub few : shared.greatest < 10 ^ 18
 
--- of some values and others of a greater exponent
+-- what is shared by some values and others of a greater exponent
 abbrev pub raise_of : Shared → Shared → Option Shared
 raise_of low high =
     let raised = high.greatest * 10 ^ (high.shift - low.shift) in
     if nat_lt raised (10 ^ 18) then Some (record { shift = low.shift; greatest = max raised low.greatest }) else None
 
--- of some values and others
+-- what is shared by some values and others
 abbrev pub join_of : Shared → Shared → Option Shared
 join_of one two =
     if two.greatest == 0 then Some one
     else (if one.greatest == 0 then Some two
     else (if nat_lt one.shift two.shift then raise_of one two else raise_of two one))
 
--- what that says of them
+-- what that says of values, or that they share no exponent
 abbrev pub Joined : List ℤ → Option Shared → Type 0
 Joined values None = share_exponent values ≡ false
 Joined values (Some shared) = IsShared values shared

@@ -6,7 +6,8 @@ use Rattle.vm_block.specs.Block.{IsBlock, times_of}
 use Rattle.vm_block.specs.Header.{header_bytes}
 use Rattle.vm_block.specs.declared.header.BlockHeader.{BlockHeader}
 
--- a header and a body are the block of these samples, and its columns have the codings that their values get
+-- a header and a body are the block of these samples, and its columns have the codings that their
+-- values get
 pub record IsWritten (bytes : List ℕ) (samples : List Stamped) : Type 0 where
   pub header : BlockHeader
   pub body : List ℕ

@@ -24,10 +24,10 @@ const BODY: u64 = 40;
 /// long as both columns together. They are in order.
 ///
 /// `Broken` names a place of the block, counted from the front of its header, by the first of these
-/// faults that it has: where the column of times breaks; 40 where times fall or leave 0 to 2^48 - 1;
-/// 16 where the last time isn't the header's; where the column of mantissas breaks; 4 where a value is
-/// no sample, or the exponent isn't the least one of the values that aren't zero (0 where all are); 24
-/// where values at one time fall.
+/// faults that it has: where the column of times breaks; 40 where times fall or leave 0 to 2^48 -
+/// 1; 16 where the last time isn't the header's; where the column of mantissas breaks; 4 where a
+/// value is no sample, or the exponent isn't the least one of the values that aren't zero (0 where
+/// all are); 24 where values at one time fall.
 pub fn decode_block(
     alloc: Global,
     header: &BlockHeader,

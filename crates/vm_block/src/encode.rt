@@ -24,8 +24,8 @@ struct Column {
     bytes: Vec<u8>,
 }
 
-/// The bytes of a block of these samples, header and body. They are one block of `cut`, in order, with
-/// times below 2^48, as `are_one_block` tests.
+/// The bytes of a block of these samples, header and body. They are one block of `cut`, in order,
+/// with times below 2^48, as `are_one_block` tests.
 pub fn encode_block(alloc: Global, samples: &[Stamped]) -> Result<List<u8>, AllocError>
     requires { AreOneBlock samples.now }
     ensures { IfOk result (λ bytes. IsWritten bytes samples.now) }
@@ -156,7 +156,7 @@ fn mantissa(value: Sample, shift: u16) -> i64
     with_sign(m < 0, raise(m.unsigned_abs(), shift_of(value) - shift))
 }
 
-/// A size with noughts behind it.
+/// A size with zeros after it.
 fn raise(size: u64, noughts: u16) -> u64
     requires some { 0 < size }
     requires few { size * 10 ^ noughts < 10 ^ 18 }

@@ -21,8 +21,8 @@ pub struct BlockHeader {
     pub times: Coding,
     /// The coding of the column of mantissas.
     pub values: Coding,
-    /// The exponent of ten of all values, from -350 to 350: the least one of those that aren't zero,
-    /// in normal form.
+    /// The exponent of ten of all values, from -350 to 350: the least one of those that aren't
+    /// zero, in normal form.
     pub exponent: i16,
     /// The first time, in ms, below 2^48.
     pub first_time: u64,
@@ -36,8 +36,8 @@ pub struct BlockHeader {
     pub values_len: u32,
 }
 
-/// The header that these bytes are. The codings of a header are 2, 3, 5 or 6, its two bytes at 6 are
-/// 0, and its other fields keep the ranges of `BlockHeader`.
+/// The header that these bytes are. The codings of a header are 2, 3, 5 or 6, its two bytes at 6
+/// are 0, and its other fields keep the ranges of `BlockHeader`.
 ///
 /// `Broken` names the first byte of the first field that breaks its rule.
 pub fn read_header(bytes: &[u8; 40]) -> Result<BlockHeader, Broken>

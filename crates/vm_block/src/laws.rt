@@ -27,8 +27,8 @@ pub fn a_block_breaks_at_one_place()
         → at ≡ other }
 {}
 
-/// What is written of samples is read as them: where its first 40 bytes are a header, the rest is the
-/// body of their block.
+/// What is written of samples is read as them: where its first 40 bytes are a header, the rest is
+/// the body of their block.
 pub fn what_is_written_is_read(header: &BlockHeader)
     ensures { (samples : List Stamped) (bytes : List ℕ) → IsWritten bytes samples
         → IsHeader header.now → header_bytes header.now ≡ take 40 bytes

@@ -11,9 +11,9 @@ use crate::cutting::block_len;
 use vm_base::limits::MAX_TIME;
 use vm_base::{Sample, Stamped};
 
-/// Whether these samples can be a block: 1 to 8,192, each mantissa with at most 18 digits at the exponent
-/// that all share, in order, with times below 2^48. So it is with each block of `cut` whose samples are
-/// in order and early enough.
+/// Whether these samples can be a block: 1 to 8,192, each mantissa with at most 18 digits at the
+/// exponent that all share, in order, with times below 2^48. So it is with each block of `cut`
+/// whose samples are in order and early enough.
 pub fn are_one_block(samples: &[Stamped]) -> bool
     ensures { IsTrue result ↔ AreOneBlock samples.now }
 {

@@ -162,7 +162,7 @@ values_again coding (next ∷ more) value lean rest v l all =
 
 -- ---- where the next integer breaks
 
--- the most values that the bytes begin with, and the bytes behind them
+-- the most values that the bytes begin with, and the bytes after them
 pub record IsStuck (coding : Coding) (count : ℕ) (value lean : ℤ) (bytes : List ℕ) (left : ℕ) : Type 0 where
   pub read : List ℤ
   pub rest : List ℕ

@@ -27,7 +27,7 @@ unfolding groups_at
 groups_at-none zero = refl
 groups_at-none (suc more) = refl
 
--- what isn't 0 may stand behind other groups
+-- what isn't 0 may stand after other groups
 some_behind : (place below scale n : ℕ) (rest : List ℕ) → 0 < n
     → behind place below scale (Some (n, rest)) ≡ Some (below + scale * n, rest)
 some_behind place below scale n rest some =
@@ -84,7 +84,7 @@ last_group place below scale byte more bytes low small =
         let same : below + scale * byte ≡ below + byte * scale = omega arith in
         rw (same, lt-ltb (below + byte * scale) (2 ^ 64) small) refl
 
--- behind nothing
+-- after nothing
 pub nothing_behind : (r : Option (ℕ × List ℕ)) → behind 0 0 1 r ≡ r
 nothing_behind None = refl
 nothing_behind (Some (n, rest)) = ap (λ (m : ℕ). Some (m, rest)) (omega arith)

@@ -51,7 +51,7 @@ groups_at-nil : (more : ℕ) → groups_at (suc more) [] ≡ None
 unfolding groups_at
 groups_at-nil more = refl
 
--- the groups behind one
+-- the groups after one
 spelled_more : (more byte high number : ℕ) → 128 ≤ byte → byte < 256 → 0 < high → number ≡ byte - 128 + 128 * high
     → groups (suc more) number ≡ byte ∷ groups more high
 spelled_more more byte high number at_least below some is =

@@ -1,4 +1,5 @@
--- A whole column: what is read is in the grammar, what is in the grammar is read, and where others break.
+-- A whole column: what is read is in the grammar, what is in the grammar is read, and where others
+-- break.
 use Rattle.std.proofs.Common.{◌≡◌, ◌==◌, ◌&&◌, not, ℕ, zero, suc, ℤ, pos, ◌-◌, ◌^◌, ◌<◌, ◌≤◌, ◌-ℤ◌, true, false, List, [], ◌∷◌, ◌++◌, length, take, replicate, slice_get, Option, Some, None, Ok, All, inl, inr, ap, ap₂, refl, sym, subst, ◌∙◌, arith}
 use Rattle.std.specs.List.{AllByRecursion, list_all, flat_map}
 use Rattle.std.specs.Ordering.{int_eq}

@@ -65,22 +65,23 @@ pub record IsColumn (coding : Coding) (first : ℤ) (count : ℕ) (bytes : List 
   pub suits : Suits coding values
   pub spelled : bytes ≡ spelling coding values
 
--- the values that some first integers of a column give: all are given at once where they are equal or
--- equally far apart, else one by each integer
+-- the values that some first integers of a column give: all are given at once where they are equal
+-- or equally far apart, else one by each integer
 abbrev pub SuitsSoFar : Coding → ℕ → List ℤ → Type 0
 SuitsSoFar DeltaConst count values = (length values ≡ 1) ⊎ ((length values ≡ count) × Suits DeltaConst values)
 SuitsSoFar Const count values = (length values ≡ count) × Suits Const values
 SuitsSoFar NearestDelta2 count values = length values ≤ count
 SuitsSoFar NearestDelta count values = length values ≤ count
 
+-- these values begin a column: the first is its first value, and all are in bounds
 pub record IsBegun (coding : Coding) (first : ℤ) (count : ℕ) (values : List ℤ) : Type 0 where
   pub begins : slice_get values 0 ≡ Some first
   pub bounds : All IsInBounds values
   pub suits : SuitsSoFar coding count values
 
--- The bytes are no column, and break at this place: behind the integers of the most values that they
--- begin with. So it is the first byte of an integer that is spelled wrongly, cut off or gives a value
--- out of bounds, or of what stands behind the last one.
+-- The bytes are no column, and break at this place: after the integers of the most values that they
+-- begin with. So it is the first byte of an integer that is spelled wrongly, cut off or gives a
+-- value out of bounds, or of what stands after the last one.
 pub record IsBroken (coding : Coding) (first : ℤ) (count : ℕ) (bytes : List ℕ) (at : ℕ) : Type 0 where
   pub read : List ℤ
   pub rest : List ℕ

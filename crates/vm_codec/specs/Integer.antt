@@ -6,7 +6,8 @@ abbrev pub zigzag : ℤ → ℕ
 zigzag (pos n) = 2 * n
 zigzag (negsuc n) = 2 * n + 1
 
--- a number in groups of 7 bits, at most so many, the lowest first; the high bit is set on all but the last
+-- a number in groups of 7 bits, at most so many, the lowest first; the high bit is set on all but
+-- the last
 unfoldable pub groups : ℕ → ℕ → List ℕ
 groups zero number = []
 groups (suc more) number =

@@ -6,7 +6,8 @@ use Rattle.vm_codec.specs.Coding.{in_bounds}
 use Rattle.vm_codec.specs.declared.coding.Coding.{Coding}
 use Rattle.vm_codec.specs.declared.coding.Coding.TheVariants.{DeltaConst, Const, NearestDelta2, NearestDelta}
 
--- the number of at most so many groups at the front, and the bytes after it; more than one group must not end with 0
+-- the number of at most so many groups at the front, and the bytes after it; more than one group
+-- must not end with 0
 unfoldable pub groups_at : ℕ → List ℕ → Option (ℕ × List ℕ)
 groups_at zero bytes = None
 groups_at (suc more) [] = None
@@ -14,14 +15,16 @@ groups_at (suc more) (byte ∷ bytes) =
     if nat_lt byte 128 then Some (byte, bytes)
     else option_and_then (λ r. if r.0 == 0 then None else Some (byte - 128 + 128 * r.0, r.1)) (groups_at more bytes)
 
--- the number below 2^64 at the front
+-- a number that was read, where it is below 2^64
 abbrev pub in_64_bits : Option (ℕ × List ℕ) → Option (ℕ × List ℕ)
 in_64_bits r = option_and_then (λ r. if nat_lt r.0 (2 ^ 64) then Some r else None) r
 
+-- the number below 2^64 at the front, and the bytes after it
 unfoldable pub number_at : List ℕ → Option (ℕ × List ℕ)
 number_at bytes = in_64_bits (groups_at 10 bytes)
 
--- what stands at the front where it follows so many groups of a number, which are worth `below`, and its first group counts `scale`
+-- what stands at the front where it follows so many groups of a number, which are worth `below`,
+-- and its first group counts `scale`
 abbrev pub behind : ℕ → ℕ → ℕ → Option (ℕ × List ℕ) → Option (ℕ × List ℕ)
 behind place below scale rest =
     option_and_then (λ r. if nat_lt 0 place && r.0 == 0 then None else Some (below + scale * r.0, r.1)) rest
@@ -30,7 +33,8 @@ behind place below scale rest =
 abbrev pub bounded : ℤ → Option ℤ
 bounded value = if in_bounds value then Some value else None
 
--- the value after this one, by the integer at the front, which says how far the next difference lies above `lean`
+-- the value after this one, by the integer at the front, which says how far the next difference
+-- lies above `lean`
 unfoldable pub next_at : ℤ → ℤ → List ℕ → Option (ℤ × List ℕ)
 next_at value lean bytes =
     option_and_then (λ r. option_map (λ next. (next, r.1)) (bounded (value +ℤ lean +ℤ unzigzag r.0))) (number_at bytes)
@@ -46,6 +50,7 @@ abbrev pub onto : ℤ → Result (List ℤ × List ℕ) ℕ → Result (List ℤ
 onto value (Ok r) = Ok (value ∷ r.0, r.1)
 onto value (Err left) = Err left
 
+-- the next value and those that are read after it; without one the reading breaks
 abbrev pub then_more : Option (ℤ × List ℕ) → ℕ → (ℤ → List ℕ → Result (List ℤ × List ℕ) ℕ) → Result (List ℤ × List ℕ) ℕ
 then_more None left read = Err left
 then_more (Some next) left read = onto next.0 (read next.0 next.1)
@@ -57,16 +62,19 @@ values_at coding (suc more) value lean bytes =
     then_more (next_at value lean bytes) (length bytes)
     (λ next rest. values_at coding more next (lean_after coding (next -ℤ value)) rest)
 
--- so many values after this one, each as far above the one before it, none where one is out of bounds
+-- so many values after this one, each as far above the one before it, none where one is out of
+-- bounds
 unfoldable pub steps_from : ℕ → ℤ → ℤ → Option (List ℤ)
 steps_from zero value step = Some []
 steps_from (suc more) value step =
     option_and_then (λ next. option_map (λ others. next ∷ others) (steps_from more next step)) (bounded (value +ℤ step))
 
+-- such values and the bytes after their integer, or a break
 abbrev pub steps_then : Option (List ℤ) → List ℕ → ℕ → Result (List ℤ × List ℕ) ℕ
 steps_then None rest left = Err left
 steps_then (Some values) rest left = Ok (values, rest)
 
+-- values as far apart as the integer that was read says
 abbrev pub steps_by : Option (ℕ × List ℕ) → ℕ → ℤ → ℕ → Result (List ℤ × List ℕ) ℕ
 steps_by None count value left = Err left
 steps_by (Some r) count value left = steps_then (steps_from count value (unzigzag r.0)) r.1 left
@@ -88,6 +96,7 @@ abbrev pub all_read : ℕ → Result (List ℤ × List ℕ) ℕ → Result (List
 all_read len (Ok r) = if length r.1 == 0 then Ok r.0 else Err (len - length r.1)
 all_read len (Err left) = Err (len - left)
 
+-- the values of a column, or the place where its bytes break
 unfoldable pub decoded : Coding → ℤ → ℕ → List ℕ → Result (List ℤ) ℕ
 decoded coding first count bytes =
     if count == 1 && not (is_const coding) then Err 0

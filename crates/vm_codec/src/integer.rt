@@ -8,7 +8,7 @@ ghost use Rattle.vm_codec.specs.Reading.{number_at, groups_at, behind, in_64_bit
 /// What the tenth group of a number is worth.
 const LAST: u64 = 1 << 63;
 
-/// The number at the front of the bytes and what stands behind it, none where the front is no
+/// The number at the front of the bytes and what stands after it, none where the front is no
 /// number in its one spelling.
 pub(crate) fn read_number(bytes: &[u8]) -> Option<(u64, &[u8])>
     ensures value { option_map (λ r. (r.0, r.1.now)) result ≡ number_at bytes.now }
@@ -35,7 +35,7 @@ pub(crate) fn read_number(bytes: &[u8]) -> Option<(u64, &[u8])>
     last_group(number, rest)
 }
 
-/// The number whose tenth group stands at the front, behind the nine of `below`. It can only be 1.
+/// The number whose tenth group stands at the front, after the nine of `below`. It can only be 1.
 fn last_group(below: u64, bytes: &[u8]) -> Option<(u64, &[u8])>
     requires { below < 2 ^ 63 }
     ensures value { option_map (λ r. (r.0, r.1.now)) result

@@ -17,9 +17,9 @@ use vm_base::limits::MAX_BLOCK_SAMPLES;
 /// -10^18 and 10^18, as `first` has to.
 ///
 /// `Broken` where the bytes aren't a column of so many values, exactly: it names the first byte of
-/// the first integer that is spelled wrongly, is cut off or gives a value out of bounds, or else the
-/// first byte behind the last integer. It is at 0 for one value in another coding than `Const`. What
-/// `into` holds then is left open.
+/// the first integer that is spelled wrongly, is cut off or gives a value out of bounds, or else
+/// the first byte after the last integer. It is at 0 for one value in another coding than `Const`.
+/// What `into` holds then is left open.
 pub fn decode(coding: Coding, first: i64, bytes: &[u8], into: &mut [i64]) -> Result<(), Broken>
     requires some { 1 ≤ length into.old }
     requires few { length into.old ≤ MAX_BLOCK_SAMPLES }

@@ -14,11 +14,12 @@ use vm_base::limits::MAX_BLOCK_SAMPLES;
 /// The bytes that a column takes at most.
 pub const MAX_COLUMN: usize = 81_920;
 
-/// The bytes that an integer of a column takes at most. `encode` wants room for one integer a value.
+/// The bytes that an integer of a column takes at most. `encode` wants room for one integer a
+/// value.
 pub const MAX_INTEGER: usize = 10;
 
-/// Writes a column to the front of `into`, in the coding that `choose` gives of its values, and says
-/// how many bytes it takes. The first value is no part of them. What stands behind them stays.
+/// Writes a column to the front of `into`, in the coding that `choose` gives of its values, and
+/// says how many bytes it takes. The first value is no part of them. What stands after them stays.
 ///
 /// 1 to 8,192 values can be written, each strictly between -10^18 and 10^18.
 pub fn encode(coding: Coding, values: &[i64], into: &mut [u8]) -> usize

@@ -59,13 +59,13 @@ pub placed_low : (minus : Bool) (size down : ℕ) → placed minus size (negsuc 
 placed_low minus size down =
     none_low (nat_lt size (10 ^ 38)) (int_le (negsuc down) (pos 2000)) (Some (number minus size (suc down)))
 
--- noughts of the size and noughts of the shift
+-- zeros of the size and zeros of the shift
 pub noughts_add : (size noughts shift : ℕ)
     → size * 10 ^ noughts * 10 ^ shift ≡ size * 10 ^ (noughts + shift)
 noughts_add size noughts shift =
     mul_assoc size (10 ^ noughts) (10 ^ shift) ∙ ap (λ n. size * n) (sym (pow-add 10 noughts shift))
 
--- with fewer noughts than are asked for, a number is divided with a rest
+-- with fewer zeros than are asked for, a number is divided with a rest
 rest_left : (size noughts more : ℕ) → (size % 10 ≡ 0 → ⊥)
     → size * 10 ^ noughts % 10 ^ (suc more + noughts) ≡ 0 → ⊥
 rest_left size noughts more last none =
@@ -81,9 +81,9 @@ rest_left size noughts more last none =
     let ten = tens q more in
     last (omega arith)
 
--- a size that doesn't end with 0, and noughts after it
+-- a size that doesn't end with 0, and zeros after it
 module _ (minus : Bool) (size noughts : ℕ) (last : size % 10 ≡ 0 → ⊥) where
-  -- where the exponent leaves at least so many noughts
+  -- where the exponent leaves at least so many zeros
   enough : (e : ℤ) (down left : ℕ) → noughts ≡ left + suc down → e +ℤ pos 1000 ≡ negsuc down
       → dec_of (signed minus (size * 10 ^ noughts)) e ≡ placed minus size (pos left)
   unfolding dec_of

@@ -153,7 +153,7 @@ strip n some few = record {
   short = stripped_few 38 n 38 some few;
 }
 
--- noughts at the end count as well in the exponent
+-- zeros at the end count as well in the exponent
 pub dec_of-noughts : (minus : Bool) (size k : ℕ) (e : ℤ) → size < 10 ^ 38
     → dec_of (signed minus (size * 10 ^ k)) e ≡ dec_of (signed minus size) (e +ℤ pos k)
 dec_of-noughts minus size k e few =

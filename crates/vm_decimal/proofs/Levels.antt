@@ -52,7 +52,7 @@ pub sum_at : (a b x y : ℤ) (k : ℕ) → a *ℤ pos (10 ^ k) ≡ x → b *ℤ 
     → in_range ((a +ℤ b) *ℤ pos (10 ^ k)) ≡ in_range (x +ℤ y)
 sum_at a b x y k one two = ap in_range (times_sum a b (10 ^ k) ∙ ap₂ ◌+ℤ◌ one two)
 
--- 18 noughts behind 64 bits are few digits
+-- 64 bits with 18 zeros after them are few digits
 pub few_at : (m r : ℤ) (gap : ℕ) → unsigned_abs m ≤ 2 ^ 63 → gap ≤ 18 → r ≡ m *ℤ pos (10 ^ gap)
     → unsigned_abs r < 10 ^ 37
 few_at m r gap few near is =

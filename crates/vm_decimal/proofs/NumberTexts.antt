@@ -36,7 +36,7 @@ some_digits size few = (decimal_is_IsNumeral_wide size (omega arith)).0.0
 pub few_digits : (size : ℕ) → size < 10 ^ 38 → length (decimal size) ≤ 38
 few_digits size few = length-decimal-le_wide 38 size (omega arith) few (omega arith)
 
--- the front of a run of noughts
+-- the front of a run of zeros
 pub fewer_noughts : (count : ℕ) → count ≤ 21 → take count (noughts 21) ≡ noughts count
 fewer_noughts count few = take-replicate count 21 48 few
 

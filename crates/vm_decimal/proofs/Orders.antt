@@ -11,7 +11,7 @@ use Rattle.vm_base.proofs.NumberLaws.{signed-parts}
 use Rattle.vm_decimal.specs.declared.dec.Dec.TheInside.{Inside}
 use Rattle.vm_decimal.proofs.DecForms.{InForm, Is, form_of-inside}
 
--- a size with noughts after it that passes 128 bits is above each other
+-- a size with zeros after it that passes 128 bits is above each other
 pub above : (size gap other : ℕ) → 2 ^ 128 ≤ size * 10 ^ gap → other < 10 ^ 38
     → Greater ≡ nat_cmp (size * 10 ^ gap) other
 above size gap other wide few =
@@ -72,7 +72,7 @@ alike s o y z form other is_y is_z mantissas =
     apart ∙ unlike s o y z form other is_y is_z (λ _ h. differ h))
     (cases_eq s.shift o.shift)
 
--- a number below zero stands before one that isn't
+-- a number below zero comes before one that isn't
 opposite : (n m : ℕ) → 0 < n
     → (Less ≡ int_cmp (neg_ℤ (pos n)) (pos m)) × (Greater ≡ int_cmp (pos m) (neg_ℤ (pos n)))
 opposite zero m some = absurd (omega arith)

@@ -82,11 +82,11 @@ pub record Spells (text : List ℕ) (size shift : ℕ) : Type 0 where
   pub parts : text ≡ mantissa ++ exponent
   pub a_mantissa : IsMantissa mantissa digits places
   pub an_exponent : IsOptionalExponent exponent power
-  -- the digits are those of the size and so many noughts, and the exponent counts these
+  -- the digits are those of the size and so many zeros, and the exponent counts these
   pub whole : digits ≡ size * 10 ^ behind
   pub last : (power -ℤ pos places) +ℤ pos behind ≡ pos shift -ℤ pos 1000
 
--- noughts behind the digits
+-- zeros after the digits
 plain_whole : (size shift : ℕ) → size < 10 ^ 38 → 1000 ≤ shift → Spells (plain (decimal size) shift) size shift
 plain_whole size shift few high =
     let ds = decimal size in
@@ -167,7 +167,7 @@ plain_point size shift few low some =
       last = last;
     }
 
--- `0.` and noughts before the digits
+-- `0.` and zeros before the digits
 plain_fraction : (size shift : ℕ) → size < 10 ^ 38 → shift < 1000 → length (decimal size) + shift ≤ 1000
     → Spells (plain (decimal size) shift) size shift
 plain_fraction size shift few low none =
@@ -246,7 +246,7 @@ exponent_is place few =
     })
     (cases_lt place 1000)
 
--- the first digit and the others behind a point
+-- the first digit and the others after a point
 front_is : (size : ℕ) → size < 10 ^ 38
     → IsMantissa (take 1 (decimal size) ++ fraction (decimal size)) size (length (decimal size) - 1)
 front_is size few =

@@ -104,7 +104,7 @@ front_take text front m end is within =
     let short : end ≤ m = omega (arith, ap length is, length-take m text) in
     ap (take end) is ∙ take-take end m text short
 
--- digits at the front of a text, behind those of another number
+-- digits at the front of a text, after those of another number
 pub record Behind (before : ℕ) (text : List ℕ) (size count : ℕ) : Type 0 where
   pub within : count ≤ length text
   pub digits : IsDigits (take count text)

@@ -17,7 +17,7 @@ use Rattle.vm_decimal.proofs.Spellings.{digit_from, sign_from, point_from, mark_
 abbrev Reads : State → List ℕ → Spelled → Type 0
 Reads s text v = result step final s text ≡ Some v
 
--- the same of a text behind one symbol
+-- the same of a text after one symbol
 abbrev ReadsNext : State → Symbol → List ℕ → Spelled → Type 0
 ReadsNext s x text v =
     option_and_then final (option_and_then (λ t. run step t text) (option_map (λ p. taken s p x) (next s.phase x)))
@@ -116,7 +116,7 @@ module _ (n : Bool) (v : Spelled) where
       }
       go _ is reads = absurd (cc reads)
 
-  -- an exponent or nothing behind these digits and places
+  -- an exponent or nothing after these digits and places
   record Ending (d k : ℕ) (text : List ℕ) : Type 0 where
     pub power : ℤ
     pub an_exponent : IsOptionalExponent text power

@@ -21,7 +21,7 @@ step_on s byte at phase symbol same is found =
     let next_is : next s.phase (symbol_of byte) ≡ Some phase = cc in
     rw (next_is, is) refl
 
--- the machine at one place of a text, and behind the next byte
+-- the machine at one place of a text, and after the next byte
 module _ (text : List ℕ) (at : ℕ) (s : State) (here : at < length text)
     (there : run step start (take at text) ≡ Some s) where
   pub came : (t : State) → step s (get_or text at 0) ≡ Some t

@@ -15,7 +15,7 @@ use Rattle.vm_decimal.specs.declared.leading.Leading.{Leading}
 power_next : (k : ℕ) → 10 ^ suc k ≡ 10 * 10 ^ k
 power_next k = omega (arith, pow-suc 10 k)
 
--- how many digits stand behind the first 18
+-- how many digits stand after the first 18
 
 pub surplus-few : (more n : ℕ) → n < 10 ^ 18 → surplus_within more n ≡ 0
 unfolding surplus_within

@@ -21,7 +21,7 @@ use Rattle.vm_decimal.proofs.Roundings.{nearest-surplus}
 abbrev pub spelling : Bool → ℕ → ℤ → Spelled
 spelling negative size e = record { negative = negative; digits = size; exponent = e }
 
--- a size without the noughts at its end
+-- a size without the zeros at its end
 pub record Bare (size : ℕ) : Type 0 where
   pub digits : ℕ
   pub noughts : ℕ

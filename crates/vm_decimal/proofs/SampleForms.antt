@@ -11,7 +11,7 @@ use Rattle.vm_base.specs.Sample.{is_sample, mantissa, exponent}
 use Rattle.vm_base.proofs.NumberLaws.{number-form_of}
 use Rattle.vm_decimal.specs.Dec.{IsDecForm}
 
--- where fewer noughts were stripped than could be, none is left
+-- where fewer zeros were stripped than could be, none is left
 last_digit : (more size : ℕ) → 0 < size → (stripped more size).1 < more
     → (stripped more size).0 % 10 ≡ 0 → ⊥
 last_digit zero size some few end = absurd (omega arith)

@@ -1,11 +1,11 @@
--- Sizes with noughts after them.
+-- Sizes with zeros after them.
 use Rattle.std.proofs.Common.{◌≡◌, ℕ, zero, suc, Bool, true, List, [], ◌∷◌, length, get_or, ◌==◌, ◌&&◌, ◌+◌, ◌*◌, ◌/◌, ◌%◌, ◌^◌, ◌<◌, ◌≤◌, refl, ap, sym, ◌∙◌, ⊎_elim, arith, add-one}
 use Rattle.std.proofs.Math.Nat.{pow-suc, pow-le-pow_right, mul-le-mul_right, mul_comm, mul_assoc}
 use Rattle.std.proofs.lemmas.Bool.{cases_lt, and_parts}
 use Rattle.std.proofs.lemmas.Bool.Decides.{nat_tests}
 use Rattle.vm_base.specs.Form.{tens}
 
--- one nought goes from the size to the noughts
+-- one zero goes from the size to the zeros
 pub one_nought_off : (whole size noughts : ℕ) → whole ≡ size * 10 ^ noughts → size % 10 ≡ 0
     → whole ≡ size / 10 * 10 ^ (noughts + 1)
 one_nought_off whole size noughts is last =
@@ -14,7 +14,7 @@ one_nought_off whole size noughts is last =
     ap (λ n. n * 10 ^ noughts) ten in
     rw add-one (omega (arith, moved, tens (size / 10) noughts))
 
--- as many noughts or more make a size as great or greater
+-- as many zeros or more make a size as great or greater
 pub more_noughts : (size few noughts : ℕ) → 0 < size → few ≤ noughts
     → 10 ^ few ≤ size * 10 ^ noughts
 more_noughts size few noughts some more =
@@ -23,7 +23,7 @@ more_noughts size few noughts some more =
     mul-le-mul_right {m = 1} {n = size} (10 ^ noughts) (omega arith) in
     omega arith
 
--- a size of 128 bits has fewer than 39 noughts at its end
+-- a size of 128 bits has fewer than 39 zeros at its end
 pub few_noughts : (whole size noughts : ℕ) → whole ≡ size * 10 ^ noughts → 0 < size
     → whole < 2 ^ 128 → noughts < 39
 few_noughts whole size noughts is some fits =

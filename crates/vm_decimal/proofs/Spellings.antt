@@ -14,7 +14,7 @@ use Rattle.vm_decimal.specs.declared.number_machine.Symbol.TheVariants.{Digit, S
 
 -- digits and their values
 
--- the value of digits behind others
+-- the value of digits after others
 pub value_append : (n : ℕ) (xs ys : List ℕ)
     → digits_value_after 10 n (xs ++ ys) ≡ digits_value_after 10 (digits_value_after 10 n xs) ys
 value_append n [] ys = refl
@@ -60,7 +60,7 @@ spelled_by negative digits places down power = record {
   exponent = signed down power -ℤ pos places;
 }
 
--- before the mantissa, behind a sign or not; and behind it, with a point or not
+-- before the mantissa, after a sign or not; after the mantissa, with a point or not
 abbrev pub opened : Bool → Phase
 opened true = Signed
 opened false = Start
@@ -108,7 +108,7 @@ module _ (n : Bool) where
   first_power false d k down (b ∷ bs) all some =
       rw (symbol-digit b all.0) (power_run d k down (0 * 10 + digit_value b) bs all.1)
 
-  -- an exponent behind its letter
+  -- an exponent after its letter
   signed_power : (d k : ℕ) (down : Bool) (sign digits : List ℕ) → IsSign down sign → IsDigits digits
       → 0 < length digits
       → run step (at_phase Marked n d k false 0) (sign ++ digits)
@@ -149,7 +149,7 @@ module _ (n : Bool) where
       ∙ ap (λ p. Some (record { negative = n; digits = d; exponent = p -ℤ pos k })) (sym e.power_is))
       is
 
-  -- a point and digits behind an optional sign
+  -- a point and digits after an optional sign
   bare_run : (sign : Bool) (fraction rest : List ℕ) → IsDigits fraction → 0 < length fraction
       → run step (at_phase (opened sign) n 0 0 false 0) (46 ∷ (fraction ++ rest))
       ≡ run step (at_phase Fraction n (digits_value 10 fraction) (length fraction) false 0) rest
@@ -161,7 +161,7 @@ module _ (n : Bool) where
       rw (symbol-digit b all.0) (fraction_run (0 * 10 + digit_value b) 1 bs rest all.1
       ∙ ap (λ p. run step (at_phase Fraction n (digits_value 10 (b ∷ bs)) p false 0) rest) (one-add (length bs)))
 
-  -- digits behind an optional sign
+  -- digits after an optional sign
   first_run : (sign : Bool) (whole rest : List ℕ) → IsDigits whole → 0 < length whole
       → run step (at_phase (opened sign) n 0 0 false 0) (whole ++ rest)
       ≡ run step (at_phase Whole n (digits_value 10 whole) 0 false 0) rest
@@ -171,7 +171,7 @@ module _ (n : Bool) where
   first_run false (b ∷ bs) rest all some =
       rw (symbol-digit b all.0) (whole_run (0 * 10 + digit_value b) 0 bs rest all.1)
 
-  -- a mantissa behind an optional sign
+  -- a mantissa after an optional sign
   record Reached (sign : Bool) (digits places : ℕ) (text rest : List ℕ) : Type 0 where
     pub pointed : Bool
     pub there : run step (at_phase (opened sign) n 0 0 false 0) (text ++ rest)

@@ -86,7 +86,7 @@ summed true x true y less = record { size = x + y; is = omega (arith, ints); far
 summed false x true y less = record { size = x - y; is = omega (arith, ints); far = omega arith }
 summed true x false y less = record { size = x - y; is = omega (arith, ints); far = omega arith }
 
--- a number with some of its noughts before its size's end
+-- a number with some of its zeros before its size's end
 pub lowered_size : (size high low raised : ℕ) → low ≤ high → raised ≡ size * 10 ^ (high - low)
     → size * 10 ^ high ≡ raised * 10 ^ low
 lowered_size size high low raised over is =
@@ -107,7 +107,7 @@ ends_with_nought size high low raised over is =
     is ∙ ap (λ n. size * 10 ^ n) split ∙ omega (arith, ap (λ n. size * n) (pow-suc 10 gap)) in
     omega arith
 
--- the sum of two numbers of which the first has more noughts
+-- the sum of two numbers of which the first has more zeros
 pub uneven : (n : Bool) (s : ℕ) (a : Bool) (size high raised : ℕ) (b : Bool) (y low : ℕ)
     → low < high → raised ≡ size * 10 ^ (high - low) → IsSum n s a raised b y
     → (y % 10 ≡ 0 → ⊥)

@@ -94,7 +94,7 @@ ceil_signed a n =
 
 -- numbers
 
--- a number without digits behind the point
+-- a number without digits after the point
 whole_times : (away : Bool) (x i : ℕ) → 1000 ≤ i → cut away (x * 10 ^ i) ones * ones ≡ x * 10 ^ i
 whole_times away x i high =
     let k : ℕ = i - 1000 in
@@ -124,7 +124,7 @@ cut_places away x i places q split low found =
     let all : ones ≡ 10 ^ places * 10 ^ i = ones_is (places + i) (omega arith) ∙ pow-add 10 places i in
     found ∙ sym (ap (cut away (x * 10 ^ i)) all ∙ cut_times away x (10 ^ places) (10 ^ i) (ten_pos i))
 
--- a whole number by its size without noughts
+-- a whole number by its size without zeros
 pub whole_shift : (a : Bool) (size bare noughts shift : ℕ) → size ≡ bare * 10 ^ noughts → shift ≡ 1000 + noughts
     → number a bare shift ≡ signed a (size * ones)
 whole_shift a size bare noughts shift whole is =

@@ -22,7 +22,7 @@ IsWord word text = str_to_ascii_lowercase text ≡ word
 abbrev IsLow : List ℕ → Type 0
 IsLow word = str_to_ascii_lowercase word ≡ word
 
--- the text is the word, or it leaves it behind what they have in common
+-- the text is the word, or it leaves it after what they have in common
 abbrev IsOrLeaves : List ℕ → List ℕ → Type 0
 IsOrLeaves word text =
     (IsWord word text × (common word text ≡ length word) × (common word text ≡ length text))

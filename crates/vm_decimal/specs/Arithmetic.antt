@@ -1,5 +1,6 @@
--- What calculation gives. Numbers are counted in units of 10^-1000, so the sum, the difference and the
--- remainder of two are those of whole numbers, and `in_range` says which of them are numbers again.
+-- What calculation gives. Numbers are counted in units of 10^-1000, so the sum, the difference and
+-- the remainder of two are those of whole numbers, and `in_range` says which of them are numbers
+-- again.
 use Rattle.std.specs.Prelude.{ℕ, ◌+◌, ◌-◌, ◌*◌, ◌^◌, nat_lt, ℤ, pos, negsuc, neg_ℤ, ◌-ℤ◌, ◌*ℤ◌, int_rem, unsigned_abs, Bool, true, false, Option, Some, None, option_map, if◌then◌else◌}
 use Rattle.std.specs.Int.{is_negative, int_rem_euclid}
 use Rattle.std.specs.Ordering.{int_eq}
@@ -11,7 +12,8 @@ use Rattle.vm_decimal.specs.Dec.{in_range, dec_of}
 unfoldable pub ones : ℕ
 ones = 10 ^ 1000
 
--- the greatest whole number that isn't above z: z less what it has behind the point, which isn't below 0
+-- the greatest whole number that isn't above z: z less what it has after the point, which isn't
+-- below 0
 unfoldable pub floor_of : ℤ → ℤ
 floor_of z = z -ℤ int_rem_euclid z (pos ones)
 
@@ -34,7 +36,7 @@ abbrev pub nearest_quotient : ℤ → ℤ → ℤ
 nearest_quotient a b =
     signed (differ (is_negative a) (is_negative b)) (nearest (unsigned_abs a) (unsigned_abs b))
 
--- the dividend as it is written with so many noughts more, and with as many as the divisor's last
+-- the dividend as it is written with so many zeros more, and with as many as the divisor's last
 -- digit asks for besides
 abbrev pub scaled_dividend : ℕ → ℤ → ℤ → ℕ
 scaled_dividend noughts a b = (form_of a).size * 10 ^ ((form_of a).shift + noughts - (form_of b).shift)
@@ -47,7 +49,7 @@ if_scaled noughts a b found = if nat_lt (scaled_dividend noughts a b) (10 ^ 38) 
 abbrev pub if_divides : ℤ → Option ℤ → Option (Option ℤ)
 if_divides b found = if int_eq b (pos 0) then Some None else option_map Some found
 
--- what is left of a behind the multiples of b, with the sign of a
+-- what is left of a once multiples of b are taken off, with the sign of a
 unfoldable pub remainder : ℤ → ℤ → Option (Option ℤ)
 remainder a b = if_divides b (if_scaled 0 a b (in_range (int_rem a b)))
 

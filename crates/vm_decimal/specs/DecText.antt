@@ -18,14 +18,16 @@ SaysNumber text z = (spelled : Spelled) × IsNumber text spelled × (dec_value s
 abbrev pub IsBeyond : List ℕ → Type 0
 IsBeyond text = (spelled : Spelled) × IsNumber text spelled × (dec_value spelled ≡ None)
 
--- the same as it is computed
+-- the same as it is computed: the number, or that it is out of range
 abbrev pub or_too_wide : Option ℤ → Result ℤ NumFault
 or_too_wide (Some z) = Ok z
 or_too_wide None = Err TooWide
 
+-- the number that was read, or the place where the text is none
 abbrev pub dec_valued : Result Spelled ℕ → Result ℤ NumFault
 dec_valued (Ok spelled) = or_too_wide (dec_value spelled)
 dec_valued (Err at) = Err (NotANumber at)
 
+-- what a text says
 unfoldable pub dec_reading : List ℕ → Result ℤ NumFault
 dec_reading text = dec_valued (number_reading text)

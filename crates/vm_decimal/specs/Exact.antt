@@ -13,11 +13,12 @@ pub record IsWide (n : ℕ) : Type 0 where
   pub last : bare % 10 ≡ 0 → ⊥
   pub many : 10 ^ 38 ≤ bare
 
--- the digits without noughts at the end and how many these are, none where they are too many
+-- the digits without zeros at the end and how many these are, none where they are too many
 abbrev pub IsCounted : Option (ℕ × ℕ) → ℕ → Type 0
 IsCounted (Some counted) n = n ≡ counted.0 * 10 ^ counted.1
 IsCounted None n = IsWide n
 
+-- the digits are those of n, or say that it has too many
 pub record IsExact (digits : Exact) (n : ℕ) : Type 0 where
   pub whole : digits.wide ≡ false → n ≡ digits.size * 10 ^ digits.noughts
   pub few : digits.size < 10 ^ 38

@@ -4,7 +4,7 @@ use Rattle.vm_base.specs.Rounding.{nearest}
 use Rattle.vm_decimal.specs.Rounded.{surplus}
 use Rattle.vm_decimal.specs.declared.leading.Leading.{Leading}
 
--- the number is the kept digits with the dropped ones behind them
+-- the number is the kept digits with the dropped ones after them
 pub record Leads (digits : Leading) (n : ℕ) : Type 0 where
   pub tail : ℕ
   pub whole : n ≡ digits.kept * 10 ^ digits.dropped + tail
@@ -14,7 +14,7 @@ pub record Leads (digits : Leading) (n : ℕ) : Type 0 where
   pub few : digits.kept < 10 ^ 19
   pub many : 0 < digits.dropped → 10 ^ 18 ≤ digits.kept
 
--- n rounded to its first 18 digits, and how many stood behind them
+-- n rounded to its first 18 digits, and how many stood after them
 pub record IsRounding (n size more : ℕ) : Type 0 where
   pub more_is : more ≡ surplus n
   pub size_is : size ≡ nearest n (10 ^ more)

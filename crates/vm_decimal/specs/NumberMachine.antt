@@ -1,5 +1,5 @@
--- A machine that reads numbers, one byte at a time. What it reads is what `specs/Spelled.antt` says:
--- that is proved.
+-- A machine that reads numbers, one byte at a time. What it reads is what `specs/Spelled.antt`
+-- says: that is proved.
 use Rattle.std.specs.Prelude.{ℕ, suc, ◌+◌, ◌-◌, ◌*◌, ◌==◌, ◌||◌, pos, ◌-ℤ◌, Bool, true, false, Option, Some, None, if◌then◌else◌}
 use Rattle.std.specs.Char.{is_ascii_digit}
 use Rattle.std.specs.Option.{option_map}
@@ -17,7 +17,7 @@ symbol_of b =
     else (if b == 43 then Sign false else (if b == 45 then Sign true
     else (if b == 46 then Point else (if b == 101 || b == 69 then Mark else Other))))
 
--- the phase behind a symbol
+-- the phase after a symbol
 abbrev pub next : Phase → Symbol → Option Phase
 next Start (Sign minus) = Some Signed
 next Start (Digit d) = Some Whole
@@ -36,6 +36,7 @@ next MarkSigned (Digit d) = Some Power
 next Power (Digit d) = Some Power
 next _ _ = None
 
+-- whether a number may end in this phase
 abbrev pub may_end : Phase → Bool
 may_end Whole = true
 may_end Fraction = true
@@ -46,7 +47,7 @@ may_end _ = false
 pub record State : Type 0 where
   pub phase : Phase
   pub negative : Bool
-  -- the digits without the point, and how many stand behind it
+  -- the digits without the point, and how many stand after it
   pub digits : ℕ
   pub places : ℕ
   -- the exponent, and whether it is below zero
@@ -63,6 +64,7 @@ taken s Signed (Sign minus) = record s { phase = Signed; negative = minus }
 taken s MarkSigned (Sign minus) = record s { phase = MarkSigned; down = minus }
 taken s phase symbol = record s { phase = phase }
 
+-- the state after one byte more, none where no number goes on with it
 abbrev pub step : State → ℕ → Option State
 step s b = option_map (λ phase. taken s phase (symbol_of b)) (next s.phase (symbol_of b))
 
@@ -78,5 +80,6 @@ spelled s = record {
 abbrev pub final : State → Option Spelled
 final s = if may_end s.phase then Some (spelled s) else None
 
+-- the state before the first byte
 abbrev pub start : State
 start = record { phase = Start; negative = false; digits = 0; places = 0; down = false; power = 0 }

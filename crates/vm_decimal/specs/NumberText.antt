@@ -1,14 +1,14 @@
 -- How a number is written. A number in normal form is given by its digits, which don't end with a
--- nought, and by its shift: the last digit is worth 10^(shift - 1000).
+-- zero, and by its shift: the last digit is worth 10^(shift - 1000).
 use Rattle.std.specs.Prelude.{ℕ, ◌+◌, ◌-◌, ◌==◌, ◌&&◌, nat_lt, nat_le, ℤ, Bool, List, [], ◌++◌, length, take, drop, replicate, codes, if◌then◌else◌}
 use Rattle.std.specs.Fmt.{decimal}
 use Rattle.vm_base.specs.Number.{form_of}
 
--- so many noughts
+-- so many zeros
 abbrev pub noughts : ℕ → List ℕ
 noughts count = replicate count 48
 
--- noughts behind the digits, or the point among them, or `0.` and noughts before them
+-- zeros after the digits, or the point among them, or `0.` and zeros before them
 abbrev pub plain : List ℕ → ℕ → List ℕ
 plain digits shift =
     let whole = length digits + shift - 1000 in
@@ -22,11 +22,11 @@ power place =
     if nat_lt place 1000 then codes "-" ++ decimal (1000 - place)
     else codes "+" ++ decimal (place - 1000)
 
--- the digits behind the first and the point before them, where there are any
+-- the digits after the first and the point before them, where there are any
 abbrev pub fraction : List ℕ → List ℕ
 fraction digits = if nat_lt 1 (length digits) then codes "." ++ drop 1 digits else []
 
--- the first digit, the others behind a point, and the power of ten of the first
+-- the first digit, the others after a point, and the power of ten of the first
 abbrev pub scientific : List ℕ → ℕ → List ℕ
 scientific digits place = take 1 digits ++ fraction digits ++ codes "e" ++ power place
 

@@ -13,6 +13,7 @@ pub record IsCapped (counted n : ℕ) : Type 0 where
   pub far : 10 ^ 30 ≤ counted → 10 ^ 30 ≤ n
   pub few : counted < 10 ^ 32
 
+-- the reader stands for this state
 pub record Stands (reader : Reader) (s : State) : Type 0 where
   pub phase : reader.phase ≡ s.phase
   pub negative : reader.negative ≡ s.negative
@@ -21,12 +22,12 @@ pub record Stands (reader : Reader) (s : State) : Type 0 where
   pub down : reader.down ≡ s.down
   pub power : IsCapped reader.power s.power
 
--- behind so many bytes
+-- after n bytes no count is above n
 pub record Counts (reader : Reader) (n : ℕ) : Type 0 where
   pub places : reader.places ≤ n
   pub dropped : reader.digits.dropped ≤ n
 
--- a digit is one
+-- a digit is below 10
 abbrev pub IsSmall : Symbol → Type 0
 IsSmall (Digit d) = d < 10
 IsSmall _ = Unit {0}

@@ -4,7 +4,7 @@ use Rattle.vm_base.specs.Number.{number, stripped}
 use Rattle.vm_base.specs.Rounding.{nearest}
 use Rattle.vm_decimal.specs.Spelled.{Spelled}
 
--- how many digits of n stand behind its first 18. The first argument bounds the steps: a number has
+-- how many digits of n stand after its first 18. The first argument bounds the steps: a number has
 -- no more digits than it counts.
 unfoldable pub surplus_within : ℕ → ℕ → ℕ
 surplus_within zero n = 0
@@ -12,6 +12,7 @@ surplus_within (suc more) n =
     let rest = surplus_within more (n / 10) + 1 in
     if nat_lt n (10 ^ 18) then 0 else rest
 
+-- how many digits of n stand after its first 18
 abbrev pub surplus : ℕ → ℕ
 surplus n = surplus_within n n
 
@@ -22,7 +23,7 @@ rounded s =
     record { negative = s.negative; digits = nearest s.digits (10 ^ more); exponent = s.exponent +ℤ pos more }
 
 -- the number of at most 18 digits, or of 10^18, none where its exponent leaves -350 to 350 once no
--- nought stands at the end of its digits
+-- zero stands at the end of its digits
 unfoldable pub sample_of_digits : Spelled → Option ℤ
 sample_of_digits s =
     let bare = stripped 18 s.digits in

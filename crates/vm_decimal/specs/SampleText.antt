@@ -37,10 +37,12 @@ abbrev pub no_number_reading : ℕ → Option ℕ → Result SampleText NumFault
 no_number_reading at None = Ok NoNumber
 no_number_reading at (Some far) = Err (NotANumber (max at far))
 
+-- what a text says, by the sample of its number or the place where it is none
 abbrev pub value_reading : List ℕ → Result (Option ℤ) ℕ → Result SampleText NumFault
 value_reading text (Ok (Some z)) = Ok (Value z)
 value_reading text (Ok None) = Err TooWide
 value_reading text (Err at) = no_number_reading at (wrong_among no_numbers text)
 
+-- what a text says of a sample's value
 unfoldable pub sample_reading : List ℕ → Result SampleText NumFault
 sample_reading text = value_reading text (valued (number_reading text))

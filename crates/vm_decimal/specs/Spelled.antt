@@ -21,7 +21,7 @@ IsSign true text = text ≡ codes "-"
 IsSign false text = (text ≡ codes "+") ⊎ (text ≡ [])
 
 -- digits with an optional point among or beside them, at least one digit in all: what they write
--- without the point, and how many stand behind it
+-- without the point, and how many stand after it
 pub record IsMantissa (text : List ℕ) (digits places : ℕ) : Type 0 where
   pub whole : List ℕ
   pub point : List ℕ

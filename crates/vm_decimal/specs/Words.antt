@@ -8,6 +8,7 @@ abbrev pub IsOneOf : List (List ℕ) → List ℕ → Type 0
 IsOneOf [] text = ⊥
 IsOneOf (word ∷ words) text = (str_to_ascii_lowercase text ≡ word) ⊎ IsOneOf words text
 
+-- the words for no number, in lower case
 abbrev pub no_numbers : List (List ℕ)
 no_numbers =
     codes "nan" ∷ codes "inf" ∷ codes "infinity" ∷ codes "+inf" ∷ codes "+infinity" ∷ codes "-inf"

@@ -38,8 +38,8 @@ pub struct Range;
 pub struct Dec {
     /// The digits as a number, with the sign.
     pub(crate) mantissa: i128,
-    /// 1000 above the exponent of ten of the last digit. In 64 bits, so that the fields leave a hole of 8 bytes:
-    /// to copy one of 13 bytes takes longer than a sum.
+    /// 1000 above the exponent of ten of the last digit. In 64 bits, so that the fields leave a
+    /// hole of 8 bytes: to copy one of 13 bytes takes longer than a sum.
     pub(crate) shift: u64,
 }
 
@@ -69,16 +69,16 @@ impl Dec {
         shift: 1000,
     };
 
-    /// `m * 10^e`, none exactly where that number has more than 38 digits or an exponent outside -1000
-    /// to 1000 in normal form.
+    /// `m * 10^e`, none exactly where that number has more than 38 digits or an exponent outside
+    /// -1000 to 1000 in normal form.
     pub fn of(m: i128, e: i16) -> Option<Dec>
         ensures { result ≡ dec_of m e }
     {
         placed(m < 0, m.unsigned_abs(), i32::from(e) + ONES)
     }
 
-    /// The mantissa and the exponent of ten in normal form: the mantissa doesn't end with 0, and zero
-    /// is 0 with the exponent 0.
+    /// The mantissa and the exponent of ten in normal form: the mantissa doesn't end with 0, and
+    /// zero is 0 with the exponent 0.
     pub fn parts(self) -> (i128, i16)
         ensures mantissa { result.0 ≡ mantissa_of self }
         ensures exponent { result.1 ≡ exponent self }
@@ -115,8 +115,8 @@ impl Dec {
         }
     }
 
-    /// The sample of this number, none exactly where it has more than 18 digits or an exponent outside
-    /// -350 to 350 in normal form.
+    /// The sample of this number, none exactly where it has more than 18 digits or an exponent
+    /// outside -350 to 350 in normal form.
     pub fn to_sample(self) -> Option<Sample>
         ensures { result ≡ as_sample self }
     {
@@ -130,7 +130,7 @@ impl Dec {
     /// Appends the number's text to `out`, which stays as it was where memory runs out.
     ///
     /// The text is plain, as `-0.5`, where the first digit counts 10^-7 to 10^20, else it is one as
-    /// `1.5e-8` or `1e+21`. A fraction has no noughts at its end.
+    /// `1.5e-8` or `1e+21`. A fraction has no zeros at its end.
     pub fn print(self, out: &mut Vec<u8>) -> Result<(), AllocError>
         ensures ok { OnOk result (out.new.items ≡ out.old.items ++ number_text self) }
         ensures err { OnErr result (out.new.items ≡ out.old.items) }
@@ -193,7 +193,7 @@ pub(crate) fn of_parts(negative: bool, size: u128, shift: u16) -> Dec
     }
 }
 
-/// The shift behind so many noughts.
+/// The shift after so many zeros.
 fn shift_behind(shift: i32, noughts: u16) -> i32
     requires near { unsigned_abs shift < 10 ^ 6 }
     ensures { result ≡ shift +ℤ pos noughts }

@@ -19,9 +19,10 @@ use crate::sample_text::NumFault;
 
 /// The number that a text writes, exactly.
 ///
-/// A number is written as `read_sample` has it, but no digit is rounded, and the texts for no number are
-/// none. `TooWide` says that the number has more than 38 digits or an exponent outside -1000 to 1000 in
-/// normal form. The time grows with the text's length alone, and no memory is taken.
+/// A number is written as `read_sample` has it, but no digit is rounded, and the texts for no
+/// number are none. `TooWide` says that the number has more than 38 digits or an exponent outside
+/// -1000 to 1000 in normal form. The time grows with the text's length alone, and no memory is
+/// taken.
 pub fn read(text: &[u8]) -> Result<Dec, NumFault>
     // What the text is where each answer comes, and nowhere else.
     ensures value { (z : ℤ) → (result ≡ Ok z) ↔ SaysNumber text.now z }
@@ -108,7 +109,7 @@ fn digits_of(reader: &Reader, text: &[u8]) -> Option<(u128, u64)>
     Some((exact.size, exact.noughts))
 }
 
-/// The exponent of the last digit before so many noughts.
+/// The exponent of the last digit before so many zeros.
 fn exponent_behind(reader: &Reader, noughts: u64) -> i128
     requires { reader.now.power < 10 ^ 32 }
     ensures value { result ≡ (signed reader.now.down reader.now.power -ℤ pos reader.now.places) +ℤ pos noughts }

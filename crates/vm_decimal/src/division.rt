@@ -11,7 +11,7 @@ ghost use Rattle.vm_decimal.specs.Parts.{value, whole};
 use crate::dec::{Dec, Range, SIZES, or_range, placed, placed_up};
 use crate::parts::{Parts, Scaled, differ, raised};
 
-/// How many noughts a dividend has behind it for a quotient in whole billionths.
+/// How many zeros are put after a dividend for a quotient in whole billionths.
 const BILLIONTHS: u16 = 9;
 
 /// The shift of a number whose last digit counts billionths.
@@ -27,11 +27,11 @@ pub(crate) struct Aligned {
 }
 
 impl Dec {
-    /// What is left of this number behind the whole multiples of the other, exact and with the sign of
-    /// this one. None comes exactly where the other is zero.
+    /// What is left of this number once multiples of the other are taken off, exact and with the
+    /// sign of this one. None comes exactly where the other is zero.
     ///
-    /// `Range` comes exactly where the other isn't zero and the remainder is out of range, or this number
-    /// has more than 38 digits once it is written down to the other's last digit.
+    /// `Range` comes exactly where the other isn't zero and the remainder is out of range, or this
+    /// number has more than 38 digits once it is written down to the other's last digit.
     pub fn rem(self, other: Dec) -> Result<Option<Dec>, Range>
         ensures value { result_ok result ≡ remainder self other }
         ensures rest { (r : ℤ) → result ≡ Ok (Some r) → IsRest self other r }
@@ -43,12 +43,12 @@ impl Dec {
         some_or_range(rest(self.in_parts(), divisor))
     }
 
-    /// The quotient, rounded to whole billionths, to the even one of two that are as near. None comes
-    /// exactly where the other is zero.
+    /// The quotient, rounded to whole billionths, to the even one of two that are as near. None
+    /// comes exactly where the other is zero.
     ///
-    /// `Range` comes exactly where the other isn't zero and the rounded quotient is out of range, or this
-    /// number has more than 38 digits once it is written with nine digits more, and down to the other's
-    /// last digit.
+    /// `Range` comes exactly where the other isn't zero and the rounded quotient is out of range,
+    /// or this number has more than 38 digits once it is written with nine digits more, and down to
+    /// the other's last digit.
     pub fn quot9(self, other: Dec) -> Result<Option<Dec>, Range>
         ensures value { result_ok result ≡ quotient9 self other }
         ensures nearest { (z : ℤ) → result ≡ Ok (Some z) → IsQuotient9 self other z }
@@ -60,11 +60,11 @@ impl Dec {
         some_or_range(billionths(self.in_parts(), divisor))
     }
 
-    /// The multiple of the unit that is nearest to this number, the even multiple of two that are as
-    /// near. The unit is above zero.
+    /// The multiple of the unit that is nearest to this number, the even multiple of two that are
+    /// as near. The unit is above zero.
     ///
-    /// `Range` comes exactly where that multiple is out of range, or this number has more than 38 digits
-    /// once it is written down to the unit's last digit.
+    /// `Range` comes exactly where that multiple is out of range, or this number has more than 38
+    /// digits once it is written down to the unit's last digit.
     pub fn round_to(self, unit: Dec) -> Result<Dec, Range>
         requires above { pos 0 <ℤ unit }
         ensures { result_ok result ≡ nearest_multiple self unit }
@@ -121,7 +121,7 @@ fn multiple(one: Parts, two: Parts) -> Option<Dec>
     placed_up(one.negative, nearest_multiple_of(both), both.shift)
 }
 
-/// The size with so many noughts more.
+/// The size with so many zeros more.
 fn scaled(parts: Parts, noughts: u16) -> Scaled
     requires high { parts.shift ≤ 2000 }
     requires few { noughts < 10 }
@@ -134,8 +134,8 @@ fn scaled(parts: Parts, noughts: u16) -> Scaled
     }
 }
 
-/// The dividend and the divisor at the lesser of their shifts, none where the dividend has more than 38
-/// digits there.
+/// The dividend and the divisor at the lesser of their shifts, none where the dividend has more
+/// than 38 digits there.
 fn align(dividend: Scaled, divisor: Scaled) -> Option<Aligned>
     requires few { dividend.size < 10 ^ 38 }
     requires some { 0 < divisor.size }

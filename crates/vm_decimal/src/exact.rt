@@ -11,8 +11,8 @@ use crate::number_machine::{Phase, Symbol, next, symbol_of};
 /// 10^37, below which a size has room for one digit more.
 const ROOM: u128 = 10_000_000_000_000_000_000_000_000_000_000_000_000;
 
-/// The digits of a number of any length: `size * 10^noughts`, or that they are more than 38 up to the
-/// last that isn't 0.
+/// The digits of a number of any length: `size * 10^noughts`, or that they are more than 38 up to
+/// the last that isn't 0.
 #[derive(Clone, Copy)]
 pub(crate) struct Exact {
     pub(crate) size: u128,
@@ -43,7 +43,7 @@ pub(crate) fn exact_digits(text: &[u8]) -> Exact
     digits
 }
 
-/// The digits behind a symbol that leads to this phase.
+/// The digits after a symbol that leads to this phase.
 #[inline]
 fn with_symbol(digits: Exact, phase: Phase, symbol: Symbol) -> Exact
     requires small { IsSmall symbol }

@@ -6,7 +6,7 @@ ghost use Rattle.vm_decimal.specs.Leading.{Leads, IsRounding, tenth_of};
 const SIZES: u64 = 1_000_000_000_000_000_000;
 
 /// The digits of a number of any length: the first 19 from the first that isn't 0, how many stand
-/// behind these, and whether one of those isn't 0.
+/// after these, and whether one of those isn't 0.
 #[derive(Clone, Copy)]
 pub(crate) struct Leading {
     pub(crate) kept: u64,
@@ -36,7 +36,7 @@ pub(crate) fn with_digit(digits: Leading, digit: u8) -> Leading
     }
 }
 
-/// The number rounded to its first 18 digits, half to even, and how many digits stood behind those.
+/// The number rounded to its first 18 digits, half to even, and how many digits stood after those.
 pub(crate) fn rounding(digits: Leading) -> (u64, u64)
     requires few { digits.kept < 10 ^ 19 }
     requires room { digits.dropped + 1 < 2 ^ 64 }

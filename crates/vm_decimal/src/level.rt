@@ -1,5 +1,5 @@
-//! Two numbers as multiples of one power of ten, where their mantissas fit 64 bits and their exponents lie
-//! near each other: sums and comparisons of these take neither a division nor a loop.
+//! Two numbers as multiples of one power of ten, where their mantissas fit 64 bits and their
+//! exponents lie near each other: sums and comparisons of these take neither a division nor a loop.
 ghost use Rattle.std.specs.Prelude.{◌≡◌, ℕ, ◌^◌, ◌<◌, ◌≤◌, pos, ◌*ℤ◌, unsigned_abs, IfSome};
 ghost use Rattle.vm_decimal.specs.Parts.{IsLeveled};
 

@@ -3,15 +3,16 @@
 //! A number is counted in units of 10^-1000, so that each one is a whole number: that is what
 //! contracts see of a `Dec`. Inside it are a sign, a size and an exponent in normal form.
 //!
-//! Read `Dec` first, whose calls give the exact number or `Range`; `specs/Dec.antt` has the limits and
-//! `specs/Arithmetic.antt` what is calculated. Then `read`, and `read_sample`, which rounds to 18
-//! digits. How a number is written is defined in `specs/NumberText.antt`. Which texts are numbers is
-//! the grammar of `specs/Spelled.antt`, how they are rounded stands in `specs/Rounded.antt`, and what
-//! the two calls answer in `specs/DecText.antt` and `specs/SampleText.antt`. Inside, `quick` reads what
-//! most values are, and `reader` any number, one byte a turn.
+//! Read `Dec` first, whose calls give the exact number or `Range`; `specs/Dec.antt` has the limits
+//! and `specs/Arithmetic.antt` what is calculated. Then `read`, and `read_sample`, which rounds to
+//! 18 digits. How a number is written is defined in `specs/NumberText.antt`. Which texts are
+//! numbers is the grammar of `specs/Spelled.antt`, how they are rounded stands in
+//! `specs/Rounded.antt`, and what the two calls answer in `specs/DecText.antt` and
+//! `specs/SampleText.antt`. Inside, `quick` reads what most values are, and `reader` any number,
+//! one byte at a time.
 //!
-//! It stands on `vm_base` for `Sample`, the normal form and first wrong places, on `itoa` for digits
-//! and on `arrayvec` for a text of bounded length.
+//! It stands on `vm_base` for `Sample`, the normal form and first wrong places, on `itoa` for
+//! digits and on `arrayvec` for a text of bounded length.
 #![tactic(auto)]
 
 mod dec;

@@ -23,7 +23,7 @@ pub(crate) enum Phase {
     Signed,
     /// Digits, and no point yet.
     Whole,
-    /// A point without a digit before it, and no digit behind it yet.
+    /// A point without a digit before it, and no digit after it yet.
     Bare,
     /// Digits and a point.
     Fraction,
@@ -47,7 +47,7 @@ pub(crate) fn symbol_of(byte: u8) -> Symbol
     }
 }
 
-/// The phase behind a symbol, none where no number goes on with it.
+/// The phase after a symbol, none where no number goes on with it.
 #[inline]
 pub(crate) fn next(phase: Phase, symbol: Symbol) -> Option<Phase>
     ensures { result ≡ next_phase phase symbol }

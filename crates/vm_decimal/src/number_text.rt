@@ -7,7 +7,7 @@ ghost use Rattle.vm_decimal.specs.NumberText.{plain, scientific, power, noughts}
 use arrayvec::ArrayVec;
 use itoa::Buffer;
 
-/// The length of the longest text: a sign, `0.`, six noughts and 38 digits.
+/// The length of the longest text: a sign, `0.`, six zeros and 38 digits.
 pub(crate) const LONGEST: usize = 47;
 
 /// The text of the number with these parts.

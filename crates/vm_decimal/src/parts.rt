@@ -41,7 +41,7 @@ pub(crate) struct Parts {
     pub(crate) shift: u16,
 }
 
-/// The size without the noughts at its end, and how many these are.
+/// The size without the zeros at its end, and how many these are.
 #[inline]
 pub(crate) fn without_noughts(size: u128) -> (u128, u16)
     requires { 0 < size }

@@ -7,8 +7,8 @@ ghost use Rattle.vm_decimal.specs.Parts.{IsBare, value};
 use crate::dec::{Dec, Range, in_form, or_range};
 use crate::parts::{Parts, differ};
 
-/// Two factors without the twos of the first and the fives of the second that make tens together, and
-/// how many these are.
+/// Two factors without the twos of the first and the fives of the second that make tens together,
+/// and how many these are.
 #[derive(Clone, Copy)]
 struct Factors {
     twos: u128,
@@ -25,8 +25,8 @@ impl Dec {
     }
 }
 
-/// The product, none where it is out of range. The tens that its factors make go first, so that what
-/// is left ends with another digit than 0, and is out of range where it passes 128 bits.
+/// The product, none where it is out of range. The tens that its factors make go first, so that
+/// what is left ends with another digit than 0, and is out of range where it passes 128 bits.
 fn product(one: Parts, two: Parts) -> Option<Dec>
     requires one { IsBare one.size one.shift }
     requires two { IsBare two.size two.shift }

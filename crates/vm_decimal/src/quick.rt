@@ -1,5 +1,5 @@
-//! The fast way to read what nearly all values are: up to 38 digits with at most one point, and an exponent
-//! of up to 4 digits.
+//! The fast way to read what nearly all values are: up to 38 digits with at most one point, and an
+//! exponent of up to 4 digits.
 ghost use Rattle.std.specs.Prelude.{◌≡◌, ◌+◌, ◌*◌, ◌^◌, ◌<◌, ◌≤◌, pos, ◌-ℤ◌, Some, Ok, IfSome, length, take, unsigned_abs};
 ghost use Rattle.std.specs.Str.Parse.{digits_value, digits_value_after};
 ghost use Rattle.vm_base.specs.Number.{signed};
@@ -15,7 +15,7 @@ use vm_base::Sample;
 /// 10^18, which is above each size of at most 18 digits.
 const SIZES: u128 = 1_000_000_000_000_000_000;
 
-/// The digits at the front of a text as a number, how many of them stand behind the point, and the
+/// The digits at the front of a text as a number, how many of them stand after the point, and the
 /// length of what is taken of the text.
 #[derive(Clone, Copy)]
 struct Mantissa {
@@ -31,7 +31,8 @@ pub(crate) struct QuickNumber {
     pub(crate) exponent: i64,
 }
 
-/// The sample of a text that `quick_number` reads and that needs no rounding. Of other texts it gives none.
+/// The sample of a text that `quick_number` reads and that needs no rounding. Of other texts it
+/// gives none.
 pub(crate) fn quick_value(text: &[u8]) -> Option<Sample>
     ensures { IfSome result (λ z. valued (number_reading text.now) ≡ Ok (Some z)) }
 {
@@ -70,7 +71,7 @@ pub(crate) fn quick_number(text: &[u8]) -> Option<QuickNumber>
     unsigned_number(negative, rest)
 }
 
-/// Whether a `-` stands at the front, and what stands behind it.
+/// Whether a `-` stands at the front, and what stands after it.
 #[inline]
 fn behind_minus(text: &[u8]) -> (bool, &[u8])
     ensures { IsSignedBy text.now result.0 result.1.now }
@@ -93,7 +94,7 @@ fn unsigned_number(negative: bool, text: &[u8]) -> Option<QuickNumber>
     })
 }
 
-/// The exponent of a number's last digit, which stands so many places behind the point.
+/// The exponent of a number's last digit, which stands so many places after the point.
 fn last_exponent(power: i16, places: usize) -> i64
     requires few { unsigned_abs power < 10 ^ 4 }
     requires near { places ≤ 38 }
@@ -176,8 +177,8 @@ fn few_digits(text: &[u8]) -> Option<u64>
     Some(size)
 }
 
-/// What the digits at the front of a text write behind those of `before`, and how many these are. They are
-/// gathered in 64 bits, 19 at a time.
+/// What the digits at the front of a text write after those of `before`, and how many these are.
+/// They are gathered in 64 bits, 19 at a time.
 #[inline(always)]
 fn digits_behind(before: u128, text: &[u8]) -> (u128, usize)
     requires room { (before + 1) * 10 ^ length text.now ≤ 10 ^ 38 }
@@ -210,7 +211,7 @@ fn last_digits(before: u128, text: &[u8]) -> (u128, usize)
     (joined(before, digits, count), count)
 }
 
-/// A number with so many digits behind it.
+/// A number with so many digits after it.
 #[inline]
 fn joined(before: u128, digits: u64, count: usize) -> u128
     requires room { (before + 1) * 10 ^ count ≤ 10 ^ 38 }

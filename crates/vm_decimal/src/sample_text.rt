@@ -34,9 +34,9 @@ pub enum NumFault {
 /// What the text of a sample's value says.
 ///
 /// A number is an optional `+` or `-`, digits with an optional point among or beside them, and
-/// optionally `e` or `E`, an optional sign and digits, each part as long as it may be. It is rounded
-/// to its first 18 digits, half to even. Zero is zero whatever its exponent. The time grows with the
-/// text's length alone, and no memory is taken.
+/// optionally `e` or `E`, an optional sign and digits, each part as long as it may be. It is
+/// rounded to its first 18 digits, half to even. Zero is zero whatever its exponent. The time grows
+/// with the text's length alone, and no memory is taken.
 pub fn read_sample(text: &[u8]) -> Result<SampleText, NumFault>
     // What the text is where each answer comes, and nowhere else.
     ensures value { (z : ℤ) → (result ≡ Ok (SampleText.Value z)) ↔ SaysValue text.now z }
@@ -51,8 +51,8 @@ pub fn read_sample(text: &[u8]) -> Result<SampleText, NumFault>
     answer(text, number_value(text))
 }
 
-/// The sample of a text that is a number, none where that is out of range, or the place at which it is
-/// none.
+/// The sample of a text that is a number, none where that is out of range, or the place at which it
+/// is none.
 fn number_value(text: &[u8]) -> Result<Option<Sample>, usize>
     ensures { result ≡ valued (number_reading text.now) }
 {

@@ -83,8 +83,8 @@ fn level_sum(one: Parts, two: Parts) -> Option<Dec>
     placed_up(negative, size, one.shift)
 }
 
-/// The sum of two numbers of which the first one's last digit counts more. It ends with the last digit
-/// of the second, so no nought has to go.
+/// The sum of two numbers of which the first one's last digit counts more. It ends with the last
+/// digit of the second, so no zero has to go.
 fn uneven_sum(high: Parts, low: Parts) -> Option<Dec>
     requires high { IsBare high.size high.shift }
     requires low { IsBare low.size low.shift }

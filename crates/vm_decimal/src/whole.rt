@@ -34,7 +34,7 @@ impl Dec {
     }
 }
 
-/// The number without what stands behind its point, or with the next whole number away from zero in
+/// The number without what stands after its point, or with the next whole number away from zero in
 /// place of that.
 fn whole_part(parts: Parts, away: bool) -> Dec
     requires few { parts.size < 10 ^ 38 }
@@ -55,8 +55,8 @@ fn whole_number(negative: bool, size: u128) -> Dec
     of_parts(negative, size, ONES + noughts)
 }
 
-/// The size without its last digits, and one more where the cut goes away from zero and they aren't all
-/// 0.
+/// The size without its last digits, and one more where the cut goes away from zero and they aren't
+/// all 0.
 fn cut(size: u128, places: u16, away: bool) -> u128
     requires few { size < 10 ^ 38 }
     requires some { 0 < places }

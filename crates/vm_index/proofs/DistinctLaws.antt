@@ -1,4 +1,5 @@
--- Lists in order of which each item is kept once: they are strictly in order, and hold what was held.
+-- Lists in order of which each item is kept once: they are strictly in order, and hold what was
+-- held.
 use Rattle.std.proofs.Common.{◌≡◌, Bool, true, false, cond, ◌||◌, List, [], ◌∷◌, ◌++◌, Option, refl, sym, ap, ◌∙◌, subst, true≢false}
 use Rattle.std.specs.Bool.{Decides}
 use Rattle.std.specs.Cmp.{IsTotalOrder}
@@ -124,7 +125,7 @@ module _ {X : Type 0} (cmp : X → X → Ordering) (total : IsTotalOrder cmp) (e
       go Equal is h = absurd (true≢false (sym ((decides b a).1 (sym (tied a b is))) ∙ apart))
       go Greater is h = h
 
-  -- what stands strictly below is no equal
+  -- what is strictly below is no equal
   pub below_apart : (a b : X) → Below a b → eq b a ≡ false
   below_apart a b lt = go (eq b a) refl
     where

@@ -118,7 +118,7 @@ below p q = is_lt (pair_cmp p q)
 strictly : (p q : Pair) → is_in_pair_order p q ≡ true → pair_eq q p ≡ false → below p q ≡ true
 strictly = distinct.strictly pair_cmp pair_cmp-total pair_eq pair_eq-Decides pairs_tied
 
--- what stands strictly below is no equal
+-- what is strictly below is no equal
 pub below_apart : (p q : Pair) → below p q ≡ true → pair_eq q p ≡ false
 below_apart = distinct.below_apart pair_cmp pair_cmp-total pair_eq pair_eq-Decides pairs_tied
 
@@ -150,7 +150,7 @@ up_firsts (e ∷ es) up = (all_firsts (λ p. is_in_pair_order e.0 p ≡ true) es
     all_firsts P [] all = tt
     all_firsts P (g ∷ gs) all = (all.0, all_firsts P gs all.1)
 
--- postings of pairs that are no entry's stay right behind it
+-- postings of pairs that are no entry's stay right after it
 still_right : (e : Seen) (es : List Seen) (qs : List Posting) → AllByRecursion (λ q. below e.0 q.pair ≡ true) qs
     → AllByRecursion (Right es) qs → AllByRecursion (Right (e ∷ es)) qs
 still_right e es [] over all = tt

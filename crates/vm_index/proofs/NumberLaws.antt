@@ -49,7 +49,7 @@ less_apart m n h = grind (arith, nat_tests)
 more_apart : (m n : ℕ) → n < m → eqb m n ≡ false
 more_apart m n h = grind (arith, nat_tests)
 
--- what stands above a number that isn't below n isn't below n either
+-- what is above a number that isn't below n isn't below n either
 all_from : (n m : ℕ) (ms : List ℕ) → n ≤ m → AllAbove m ms → AllByRecursion (λ x. nat_le n x ≡ true) ms
 all_from n m ms h = all_more _ _ (λ x p. le_yes n x (omega (arith, ltb-true m x p))) ms
 

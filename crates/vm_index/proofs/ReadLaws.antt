@@ -128,7 +128,7 @@ set_chain a b c first second = ap is_lt (label_cmp-total.trans a b c (less (labe
     less Equal h = absurd (true≢false (sym h))
     less Greater h = absurd (true≢false (sym h))
 
--- a set stands behind all of some that rise where it stands behind their last one
+-- a set stands after all of some that rise where it stands after their last one
 pub rise_last : (sets : List (List Pair)) (i : ℕ) (last set : List Pair) → SetsRise sets → i + 1 ≡ length sets → last ≡ get_or sets i last
     → is_set_below last set ≡ list_all (λ s. is_set_below s set) sets
 rise_last [] i last set up long is = absurd (omega arith)
@@ -180,7 +180,7 @@ bytes-take (suc n) [] fits i = omega arith
 bytes-take (suc n) (b ∷ bs) fits zero = fits 0
 bytes-take (suc n) (b ∷ bs) fits (suc i) = bytes-take n bs (λ j. fits (suc j)) i
 
--- a length, the label set's bytes and those behind them
+-- a length, the label set's bytes and those after them
 pub record Frame (ys bytes more : List ℕ) (n : ℕ) : Type 0 where
   pub long : length bytes ≡ n
   pub small : n < 2 ^ 32

@@ -35,7 +35,7 @@ filtered_behind p (x ∷ xs) (suc n) within low =
     let apart : p x ≡ false = low 0 x (omega arith) in
     rw apart (filtered_behind p xs n (omega arith) (λ k d below. low (suc k) d (omega arith)))
 
--- ---- how the names of postings stand to a name
+-- ---- how the names of postings compare with a name
 
 abbrev beside : List ℕ → Posting → Ordering
 beside name q = text_cmp q.pair.name name

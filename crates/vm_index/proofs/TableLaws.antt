@@ -33,7 +33,7 @@ frame_none_at ys short =
     let a : nat_lt (length ys) 4 ≡ true = grind (arith, nat_tests) in
     rw a refl
 
--- a length that stands there, and so many bytes behind it or less
+-- a length that stands there, and so many bytes after it or less
 frame_past : (n : ℕ) (more : List ℕ) → n < 2 ^ 32 → length more < n → frame_len (to_be_bytes w32 n ++ more) ≡ None
 frame_past n more small past =
     let a : nat_lt (length (to_be_bytes w32 n ++ more)) 4 ≡ false = grind (arith, nat_tests) in
@@ -48,7 +48,7 @@ frame_here n more small within =
     let b : nat_lt (length more) n ≡ false = grind (arith, nat_tests) in
     rw (a, is, b) refl
 
--- ---- the place behind some sets
+-- ---- the place after some sets
 
 -- where the set at the front breaks, or doesn't rise
 abbrev place_in : Result (List Pair) ℕ → ℕ
@@ -86,7 +86,7 @@ place_is sets due rest p (no_rise set more some has parts falls) =
     sym (place_framed due (label_set_bytes set) more rest some (set_fits set has.limits)
     (parts ∙ append_assoc (to_be_bytes w32 (length (label_set_bytes set))) (label_set_bytes set) more) ∙ ap place_in (set_again set has))
 
--- ---- what breaks behind sets is no set that could stand there
+-- ---- what breaks after sets is no set that could stand there
 
 differ : (set : List Pair) (at : ℕ) → HasBytes set → label_set_of (label_set_bytes set) ≡ Err at → ⊥
 differ set at has fault = let both : Ok set ≡ Err at = sym (set_again set has) ∙ fault in cc
@@ -122,7 +122,7 @@ no_next sets due rest p set more (no_rise other others some had parts falls) wan
 
 -- ---- the sets that two tables have in common
 
--- one of two lists goes on behind the other, and so do the bytes
+-- one of two lists goes on after the other, and so do the bytes
 common : (us bs : Sets) (x y : List ℕ) → AllByRecursion HasBytes us → AllByRecursion HasBytes bs → table_bytes us ++ x ≡ table_bytes bs ++ y
     → ((more : Sets) × (bs ≡ us ++ more) × (x ≡ table_bytes more ++ y)) ⊎ ((more : Sets) × (us ≡ bs ++ more) × (y ≡ table_bytes more ++ x))
 common [] bs x y all others same = inl (bs, refl, same)
@@ -144,7 +144,7 @@ rises_there [] c more up = refl
 rises_there (a ∷ us) c more up =
     and_true (is_set_below a c) (list_all (λ s. is_set_below s c) us) (all_right (λ s. is_set_below a s ≡ true) us (c ∷ more) up.0).0 (rises_there us c more up.1)
 
--- a set that stands behind those before it isn't where a table breaks
+-- a set that stands after those before it isn't where a table breaks
 no_more : (count : ℕ) (table : List ℕ) (p : ℕ) (b : TableBreaks count table p) (c : List Pair) (more sets : Sets) (y : List ℕ) → AreSets sets → length sets ≤ count
     → sets ≡ b.sets ++ c ∷ more → b.rest ≡ table_bytes (c ∷ more) ++ y → ⊥
 no_more count table p b c more sets y are few is rest =
@@ -221,7 +221,7 @@ all_here : (fs : List (List ℕ)) → behind_all fs (concat fs) ≡ Ok []
 all_here [] = refl
 all_here (f ∷ fs) = ap (λ r. r >>= behind_all fs) (behind_here f (concat fs)) ∙ all_here fs
 
--- of a table and its postings nothing but want of memory is told
+-- of a table and its postings no fault is told but that memory ran out
 pub only_memory : (count : ℕ) (table postings : List ℕ) (sets : Sets) (fault : IndexFault) → IsTable count table sets → postings ≡ postings_bytes (postings_of sets)
     → IsRefused count table postings fault → fault ≡ Memory
 only_memory count table postings sets Memory is spelled why = refl
@@ -248,7 +248,7 @@ one_postings count table postings p q a b =
     let both : Some p ≡ Some q = sym a.2 ∙ ap (λ s. first_off (postings_fields (postings_of s)) postings) same ∙ b.2 in
     cc
 
--- of bytes one fault is told, but for want of memory
+-- of bytes one fault is told, unless memory ran out
 pub one_refusal : (count : ℕ) (table postings : List ℕ) (f g : IndexFault) → IsRefused count table postings f → IsRefused count table postings g
     → (f ≡ Memory) ⊎ (g ≡ Memory) ⊎ (f ≡ g)
 one_refusal count table postings Memory g a b = inl refl

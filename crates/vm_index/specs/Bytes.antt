@@ -27,5 +27,6 @@ posting_fields q =
 abbrev pub postings_fields : List Posting → List (List ℕ)
 postings_fields qs = to_be_bytes w64 (length qs) ∷ flat_map posting_fields qs
 
+-- the bytes of postings
 abbrev pub postings_bytes : List Posting → List ℕ
 postings_bytes qs = concat (postings_fields qs)

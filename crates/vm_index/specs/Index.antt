@@ -8,11 +8,11 @@ use Rattle.vm_labels.specs.Bytes.{HasBytes}
 use Rattle.vm_labels.specs.declared.pair.Pair.{Pair}
 use Rattle.vm_index.specs.declared.posting.Posting.{Posting}
 
--- whether a label set stands before another in label order
+-- whether a label set comes before another in label order
 abbrev pub is_set_below : List Pair → List Pair → Bool
 is_set_below a b = is_lt (label_cmp a b)
 
--- each set stands before all that come after it, so none stands twice
+-- each set comes before all that come after it, so none stands twice
 abbrev pub SetsRise : List (List Pair) → Type 0
 SetsRise = IsUp is_set_below
 
@@ -38,6 +38,7 @@ ordinals_of sets p = places_from 0 (list_any (pair_eq p)) sets
 abbrev pub pairs_of : List (List Pair) → List Pair
 pairs_of sets = dedup pair_eq (sorted is_in_pair_order (flat_map (λ set. set) sets))
 
+-- a pair with the ordinals of the sets that have it
 abbrev pub posting_of : List (List Pair) → Pair → Posting
 posting_of sets p = record { pair = p; ordinals = ordinals_of sets p }
 

@@ -7,25 +7,25 @@ use Rattle.vm_base.specs.Sorted.{IsUp}
 abbrev pub Rise : List ℕ → Type 0
 Rise = IsUp nat_lt
 
--- whether a number stands in a list
+-- whether a number is in a list
 abbrev pub holds : List ℕ → ℕ → Bool
 holds numbers n = list_any (λ m. m == n) numbers
 
--- the list has just the numbers that pass the test, each once and in order
+-- the list has exactly the numbers that pass the test, each once and in order
 pub record AreThose (test : ℕ → Bool) (numbers : List ℕ) : Type 0 where
   pub rising : Rise numbers
   pub same : (n : ℕ) → holds numbers n ≡ test n
 
--- whether what was found stays, where those among others are wanted or those that aren't
+-- whether a number stays: one that was found, or else one that wasn't
 abbrev pub stays : Bool → Bool → Bool
 stays true found = found
 stays false found = not found
 
--- the numbers that stand in the other list, or those that don't
+-- the numbers that are in the other list, or those that aren't
 abbrev pub kept : Bool → List ℕ → List ℕ → List ℕ
 kept among others = filter (λ n. stays among (holds others n))
 
--- the numbers of two lists, those of the first one by one and around each what the second has
+-- the numbers of both lists: each of the first, and around it those that the second has
 abbrev pub merged : List ℕ → List ℕ → List ℕ
 merged [] others = others
 merged (n ∷ ns) others = filter (λ m. nat_lt m n) others ++ n ∷ merged ns (filter (nat_lt n) others)

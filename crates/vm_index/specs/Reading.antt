@@ -17,9 +17,9 @@ pub record IsTable (count : ℕ) (table : List ℕ) (sets : List (List Pair)) : 
   pub labels : AreSets sets
   pub spelled : table ≡ table_bytes sets
 
--- What is wrong with the bytes behind some label sets, where so many more are due, and at which place of these
--- bytes: they are left over; a length is cut off, or goes past the end; a label set is none, or doesn't stand
--- behind those before it.
+-- What is wrong with the bytes after some label sets, where so many more are due, and at which
+-- place of these bytes: they are left over; a length is cut off, or goes past the end; a label set
+-- is none, or doesn't stand after those before it.
 pub data BreaksBehind (sets : List (List Pair)) (due : ℕ) (rest : List ℕ) : ℕ → Type 0 where
   left_over : due ≡ 0 → 0 < length rest → BreaksBehind sets due rest 0
   no_length : 0 < due → length rest < 4 → BreaksBehind sets due rest 0
@@ -29,7 +29,8 @@ pub data BreaksBehind (sets : List (List Pair)) (due : ℕ) (rest : List ℕ) : 
   no_rise : (set : List Pair) (more : List ℕ) → 0 < due → HasBytes set → rest ≡ framed set ++ more
       → list_all (λ s. is_set_below s set) sets ≡ false → BreaksBehind sets due rest 4
 
--- the first wrong place of a table of so many label sets: some stand there, and behind them it breaks
+-- the first wrong place of a table of so many label sets: some stand there, and after them it
+-- breaks
 pub record TableBreaks (count : ℕ) (table : List ℕ) (at : ℕ) : Type 0 where
   pub sets : List (List Pair)
   pub rest : List ℕ
@@ -42,11 +43,12 @@ pub record TableBreaks (count : ℕ) (table : List ℕ) (at : ℕ) : Type 0 wher
 
 -- ---- the postings
 
--- the bytes behind a field, or how many there are where the field doesn't stand
+-- the bytes after a field, or how many there are where the field doesn't stand
 abbrev pub behind : List ℕ → List ℕ → Result (List ℕ) ℕ
 behind field bytes = if bytes_eq (take (length field) bytes) field then Ok (drop (length field) bytes) else Err (length bytes)
 
--- the bytes behind fields that stand one after the other, or how many there are from the first one on that doesn't
+-- the bytes after fields that stand one after the other, or how many there are from the first one
+-- on that doesn't
 abbrev pub behind_all : List (List ℕ) → List ℕ → Result (List ℕ) ℕ
 behind_all [] bytes = Ok bytes
 behind_all (field ∷ fields) bytes = behind field bytes >>= behind_all fields
@@ -56,7 +58,7 @@ abbrev pub off_place : ℕ → Result (List ℕ) ℕ → Option ℕ
 off_place total (Ok rest) = if nat_lt 0 (length rest) then Some (total - length rest) else None
 off_place total (Err left) = Some (total - left)
 
--- the place of the first field that isn't the due one, or of bytes left over behind the last field
+-- the place of the first field that isn't the due one, or of bytes left over after the last field
 abbrev pub first_off : List (List ℕ) → List ℕ → Option ℕ
 first_off fields bytes = off_place (length bytes) (behind_all fields bytes)
 
@@ -67,7 +69,7 @@ abbrev pub Gives : {X Y : Type 0} → (X → Y) → Result X ℕ → Result Y �
 Gives view (Ok x) read = read ≡ Ok (view x)
 Gives view (Err left) read = read ≡ Err left
 
--- why a table is refused; nothing is said of want of memory
+-- why a table is refused; nothing is said where memory ran out
 abbrev pub TableFault : ℕ → List ℕ → IndexFault → Type 0
 TableFault count table (BrokenTable at) = TableBreaks count table at
 TableFault count table (BrokenPostings at) = ⊥

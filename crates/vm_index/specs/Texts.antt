@@ -6,7 +6,7 @@ use Rattle.vm_base.specs.Sorted.{IsUp, last_of}
 use Rattle.vm_labels.specs.Labels.{is_among, is_below, pair_eq}
 use Rattle.vm_labels.specs.declared.pair.Pair.{Pair}
 
--- the list has just the texts that pass the test, each once and in order
+-- the list has exactly the texts that pass the test, each once and in order
 pub record AreTexts (test : List ℕ → Bool) (texts : List (List ℕ)) : Type 0 where
   pub rising : IsUp is_below texts
   pub same : (text : List ℕ) → is_among texts text ≡ test text

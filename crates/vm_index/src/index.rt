@@ -19,8 +19,8 @@ use std::marker::Model;
 use vm_base::{List, Text};
 use vm_labels::Labels;
 
-/// The label sets of a part's series, in order, with the sets that have each pair. Contracts see the
-/// list of the sets. An ordinal is a place in it, counted from 0.
+/// The label sets of a part's series, in order, with the sets that have each pair. Contracts see
+/// the list of the sets. An ordinal is a place in it, counted from 0.
 #[derive(Debug, Drop)]
 pub struct Index {
     sets: List<Labels>,
@@ -66,12 +66,12 @@ impl Index {
 
     /// The index whose label table and postings these bytes are, of so many label sets.
     ///
-    /// A field is a number, a length, a name or a value. `BrokenTable` names the first byte of the first
-    /// field of the label table that is cut off or breaks its rule: a set's length doesn't go past the
-    /// end, and a set's own fields are those that `Labels::read` takes. A set that stands in no order
-    /// or breaks a limit of an import is broken at its own first byte, and bytes that are left over at the
-    /// first of them. `BrokenPostings` names the first byte of the first field of the postings that isn't
-    /// the one that is due for these sets, or of bytes left over.
+    /// A field is a number, a length, a name or a value. `BrokenTable` names the first byte of the
+    /// first field of the label table that is cut off or breaks its rule: a set's length doesn't go
+    /// past the end, and a set's own fields are those that `Labels::read` takes. A set that is out
+    /// of order or breaks a limit of an import is broken at its own first byte, and bytes that are
+    /// left over at the first of them. `BrokenPostings` names the first byte of the first field of
+    /// the postings that isn't the one that is due for these sets, or of bytes left over.
     pub fn read(
         alloc: Global,
         table: &[u8],
@@ -118,8 +118,8 @@ impl Index {
         self.bytes.as_slice()
     }
 
-    /// The ordinals of the sets that have this name with this value. They rise. An empty value is none
-    /// that a set has.
+    /// The ordinals of the sets that have this name with this value. They rise. An empty value is
+    /// none that a set has.
     pub fn lookup(&self, name: &str, value: &str) -> &[u64]
         ensures ordinals { result.now ≡ ordinals_of self.now (record { name = name.now; value = value.now }) }
         ensures rising { Rise result.now }
@@ -135,8 +135,8 @@ impl Index {
         Ok(List::from_vec(names))
     }
 
-    /// The values that the sets have of a name, each once and in order by their bytes. None of them is
-    /// empty.
+    /// The values that the sets have of a name, each once and in order by their bytes. None of them
+    /// is empty.
     pub fn values(&self, alloc: Global, name: &str) -> Result<List<Text>, AllocError>
         ensures { IfOk result (λ values. AreTexts (is_value_in self.now name.now) values) }
     {

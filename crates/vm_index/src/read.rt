@@ -51,8 +51,8 @@ fn frame_len(bytes: &[u8]) -> Option<usize>
     Some(len)
 }
 
-/// Reads the label set whose bytes these are, which stand at a place of the table, and puts it behind
-/// those before it.
+/// Reads the label set whose bytes these are, which stand at a place of the table, and puts it
+/// after those before it.
 fn read_set(alloc: Global, sets: &mut List<Labels>, bytes: &[u8], at: u64) -> Result<(), IndexFault>
     requires sets { AreSets sets.old }
     requires place { at + length bytes.now < 2 ^ 64 }
@@ -73,7 +73,7 @@ fn read_set(alloc: Global, sets: &mut List<Labels>, bytes: &[u8], at: u64) -> Re
     Ok(())
 }
 
-/// Whether a set stands behind all of those, which rise.
+/// Whether a set stands after all of those, which rise.
 fn follows(sets: &[Labels], set: &Labels) -> bool
     requires { SetsRise sets.now }
     ensures { result ≡ list_all (λ s. is_set_below s set.now) sets.now }
@@ -101,7 +101,7 @@ pub(crate) fn first_off(postings: &[Posting], bytes: &[u8]) -> Option<u64>
     Some((bytes.len() - left) as u64)
 }
 
-/// The bytes behind postings, or how many there are from the first wrong field on.
+/// The bytes after postings, or how many there are from the first wrong field on.
 fn behind_all<'a>(postings: &[Posting], bytes: &'a [u8]) -> Result<&'a [u8], usize>
     requires { AllByRecursion (λ q. is_too_long q.pair ≡ false) postings.now }
     ensures { Gives (λ rest. rest.now) result (behind_all (postings_fields postings.now) bytes.now) }
@@ -113,7 +113,7 @@ fn behind_all<'a>(postings: &[Posting], bytes: &'a [u8]) -> Result<&'a [u8], usi
     Ok(rest)
 }
 
-/// The bytes behind one posting.
+/// The bytes after one posting.
 fn behind_posting<'a>(posting: &Posting, bytes: &'a [u8]) -> Result<&'a [u8], usize>
     requires { is_too_long posting.now.pair ≡ false }
     ensures { Gives (λ rest. rest.now) result (behind_all (posting_fields posting.now) bytes.now) }
@@ -123,7 +123,7 @@ fn behind_posting<'a>(posting: &Posting, bytes: &'a [u8]) -> Result<&'a [u8], us
     behind_numbers(posting.ordinals.as_slice(), rest)
 }
 
-/// The bytes behind how many numbers there are, and each number.
+/// The bytes after how many numbers there are, and each number.
 fn behind_numbers<'a>(numbers: &[u64], bytes: &'a [u8]) -> Result<&'a [u8], usize>
     ensures { Gives (λ rest. rest.now) result (behind_all (to_be_bytes w64 (length numbers.now) ∷ map (to_be_bytes w64) numbers.now) bytes.now) }
 {
@@ -134,7 +134,7 @@ fn behind_numbers<'a>(numbers: &[u64], bytes: &'a [u8]) -> Result<&'a [u8], usiz
     Ok(rest)
 }
 
-/// The bytes behind a text and its length.
+/// The bytes after a text and its length.
 fn behind_text<'a>(text: &str, bytes: &'a [u8]) -> Result<&'a [u8], usize>
     requires { length text.now < 2 ^ 16 }
     ensures { Gives (λ rest. rest.now) result (behind_all (text_fields text.now) bytes.now) }
@@ -143,7 +143,7 @@ fn behind_text<'a>(text: &str, bytes: &'a [u8]) -> Result<&'a [u8], usize>
     behind(text.as_bytes(), rest)
 }
 
-/// The bytes behind a field.
+/// The bytes after a field.
 fn behind<'a>(field: &[u8], bytes: &'a [u8]) -> Result<&'a [u8], usize>
     ensures { Gives (λ rest. rest.now) result (behind field.now bytes.now) }
 {

@@ -221,7 +221,7 @@ module _ (inside : List Bracket) (a_key : Bool) where
 
 -- ---- values
 
--- behind a bracket the same may come, and more
+-- after a bracket the same may come, and more
 first_item_read : (inside : List Bracket) (text : List ℕ) → Reads Wanted inside text → Reads FirstItem inside text
 first_item_read inside [] reads = absurd (cc reads)
 first_item_read inside (b ∷ bs) reads = go (symbol_of b) reads (first_item_read inside bs)

@@ -1,5 +1,5 @@
--- What the machine reads is in the grammar: by what may follow each phase, from the end of a text to its
--- front.
+-- What the machine reads is in the grammar: by what may follow each phase, from the end of a text
+-- to its front.
 use Rattle.std.specs.Prelude.{◌≡◌, ◌==◌, ℕ, suc, ◌<◌, nat_lt, cond, Bool, true, false, List, [], ◌∷◌, ◌++◌, length, Option, Some, None, is_some}
 use Rattle.std.specs.Int.{is_in_range}
 use Rattle.std.specs.Option.{option_map}
@@ -20,7 +20,7 @@ use Rattle.vm_json.specs.declared.string_machine.Within.{Within}
 use Rattle.vm_json.specs.declared.string_machine.Within.TheVariants.{Plain, Escape, FourHex, ThreeHex, TwoHex, OneHex, OneTail, TwoTails, ThreeTails, BehindE0, BehindED, BehindF0, BehindF4}
 use Rattle.vm_json.proofs.Symbols.{Is, is_nought, is_digit, is_white, is_quote, is_begin_array, is_begin_object, is_end_array, is_end_object, is_comma, is_colon, is_minus, is_plus, is_point, is_exp, is_t, is_f, is_n, symbol_is, Reads, Moves, equal, digit_any}
 
--- a front of some kind, and what stands behind it
+-- a front of some kind, and what stands after it
 pub record Then (A : Type 0) (P : List ℕ → A → Type 0) (Q : List ℕ → Type 0) : Type 0 where
   pub rest : List ℕ
   pub what : A
@@ -69,7 +69,7 @@ data Tails : ℕ → List ℕ → List ℕ → Type 0 where
   no_tail : {text rest : List ℕ} → CharsTo text rest → Tails 0 text rest
   a_tail : {n : ℕ} {text rest : List ℕ} (b : ℕ) → is_tail b ≡ true → Tails n text rest → Tails (suc n) (b ∷ text) rest
 
--- the same behind a second byte that is narrowed down
+-- the same after a second byte that is narrowed down
 data Narrow (low high n : ℕ) : List ℕ → List ℕ → Type 0 where
   narrow : {text rest : List ℕ} (b : ℕ) → is_in_range low high b ≡ true → Tails n text rest → Narrow low high n (b ∷ text) rest
 
@@ -220,7 +220,7 @@ space_behind b white [] text is = a_space b white is
 space_behind b white (Square ∷ inside) text is = record { rest = is.rest; what = is.what; front = space_more_items white is.front; behind = is.behind }
 space_behind b white (Curly ∷ inside) text is = record { rest = is.rest; what = is.what; front = space_more_members white is.front; behind = is.behind }
 
--- ---- behind a value
+-- ---- after a value
 
 -- an item and what follows it, within an array
 listed : (inside : List Bracket) (text : List ℕ) → Wanteds (Square ∷ inside) text → Then Jsons (ItemList (suc (length inside)) text) (Behinds inside)

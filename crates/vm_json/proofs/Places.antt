@@ -10,7 +10,7 @@ use Rattle.vm_json.specs.declared.nesting.Bracket.{Bracket}
 use Rattle.vm_json.specs.declared.phase.Phase.{Phase}
 use Rattle.std.specs.Prelude.{◌==◌}
 
--- at one place of a text, and behind the next byte
+-- at one place of a text, and after the next byte
 module _ (text : List ℕ) (n : ℕ) (s : State) (here : n < length text)
     (there : run step start (take n text) ≡ Some s) where
   pub came : (t : State) → step s (get_or text n 0) ≡ Some t

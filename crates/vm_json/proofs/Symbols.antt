@@ -97,7 +97,7 @@ digit_any b is = grind (arith, nat_tests)
 abbrev pub Reads : Phase → List Bracket → List ℕ → Type 0
 Reads p inside text = result step final (at p inside) text ≡ Some tt
 
--- the same of a text behind one move
+-- the same of a text after one move
 abbrev pub Moves : Option State → List ℕ → Type 0
 Moves next text = option_and_then final (option_and_then (λ t. run step t text) next) ≡ Some tt
 

@@ -1,5 +1,5 @@
--- A machine that reads JSON texts, one byte at a time. What it reads is what `specs/Grammar.antt` says:
--- that is proved.
+-- A machine that reads JSON texts, one byte at a time. What it reads is what `specs/Grammar.antt`
+-- says: that is proved.
 use Rattle.std.specs.Prelude.{ℕ, ◌==◌, ◌&&◌, nat_lt, Bool, true, false, List, [], ◌∷◌, length, drop, Option, Some, None, is_some, Result, Ok, Err, if◌then◌else◌}
 use Rattle.std.specs.Int.{is_in_range}
 use Rattle.std.specs.Option.{option_map}
@@ -23,6 +23,7 @@ pub record State : Type 0 where
   pub phase : Phase
   pub inside : List Bracket
 
+-- a phase, and the open brackets
 abbrev pub at : Phase → List Bracket → State
 at phase inside = record { phase = phase; inside = inside }
 
@@ -37,12 +38,13 @@ symbol_of b =
     else (if b == 46 then Point else (if is_mark b then Mark else (if b == 116 then BeginTrue
     else (if b == 102 then BeginFalse else (if b == 110 then BeginNull else Other))))))))))))))))
 
+-- a thing, where the test passes
 abbrev pub only : {A : Type 0} → Bool → A → Option A
 only test a = if test then Some a else None
 
 -- ---- strings
 
--- behind a byte that begins a character above ASCII
+-- after a byte that begins a character above ASCII
 abbrev pub behind_lead : ℕ → Option Within
 behind_lead b =
     if is_in_range 0xC2 0xDF b then Some OneTail
@@ -50,13 +52,16 @@ behind_lead b =
     else (if is_in_range 0xE1 0xEF b then Some TwoTails else (if b == 0xF0 then Some BehindF0
     else (if is_in_range 0xF1 0xF3 b then Some ThreeTails else (if b == 0xF4 then Some BehindF4 else None))))))
 
+-- after a byte between characters
 abbrev pub behind_plain : ℕ → Option Within
 behind_plain b =
     if is_plain b then Some Plain else (if b == 92 then Some Escape else behind_lead b)
 
+-- after the byte that follows a backslash
 abbrev pub behind_escape : ℕ → Option Within
 behind_escape b = if b == 117 then Some FourHex else only (is_some (unit_of b)) Plain
 
+-- where a byte within a string leads to
 abbrev pub next_within : Within → ℕ → Option Within
 next_within Plain b = behind_plain b
 next_within Escape b = behind_escape b
@@ -72,21 +77,24 @@ next_within BehindED b = only (is_in_range 0x80 0x9F b) OneTail
 next_within BehindF0 b = only (is_in_range 0x90 0xBF b) TwoTails
 next_within BehindF4 b = only (is_in_range 0x80 0x8F b) TwoTails
 
--- behind the last quote of a key or a value
+-- after the last quote of a key or a value
 abbrev pub behind_string : Bool → Phase
 behind_string true = BehindKey
 behind_string false = Behind
 
+-- whether a byte is the last quote
 abbrev pub is_last : Within → ℕ → Bool
 is_last Plain b = b == 34
 is_last _ b = false
 
+-- after a byte of a key or of a value
 abbrev pub in_string : Bool → Within → ℕ → Option Phase
 in_string key w b =
     if is_last w b then Some (behind_string key) else option_map (InString key) (next_within w b)
 
 -- ---- numbers and words
 
+-- how far a number is read after a symbol, none where it doesn't go on with it
 abbrev pub in_digits : Symbol → Digits → Option Digits
 in_digits Nought Signed = Some Zero
 in_digits Nought Whole = Some Whole
@@ -119,6 +127,7 @@ may_end Fraction = true
 may_end Power = true
 may_end _ = false
 
+-- after the next letter of `true`, `false` or `null`
 abbrev pub in_word : Word → ℕ → Option Phase
 in_word T b = only (b == 114) (InWord Tr)
 in_word Tr b = only (b == 117) (InWord Tru)
@@ -151,6 +160,7 @@ wanted inside BeginFalse = Some (at (InWord F) inside)
 wanted inside BeginNull = Some (at (InWord N) inside)
 wanted inside _ = None
 
+-- after a value within this bracket
 abbrev pub behind_open : Bracket → List Bracket → Symbol → Option State
 behind_open Square inside Comma = Some (at Wanted (Square ∷ inside))
 behind_open Square inside EndArray = Some (at Behind inside)
@@ -158,28 +168,32 @@ behind_open Curly inside Comma = Some (at Key (Curly ∷ inside))
 behind_open Curly inside EndObject = Some (at Behind inside)
 behind_open _ inside _ = None
 
--- behind a value
+-- after a value
 abbrev pub behind : List Bracket → Symbol → Option State
 behind inside Space = Some (at Behind inside)
 behind [] _ = None
 behind (bracket ∷ inside) symbol = behind_open bracket inside symbol
 
+-- after the bracket that opens an array
 abbrev pub first_item : List Bracket → Symbol → Option State
 first_item inside Space = Some (at FirstItem inside)
 first_item inside EndArray = Some (at Behind (drop 1 inside))
 first_item inside symbol = wanted inside symbol
 
+-- where a key is wanted
 abbrev pub key : List Bracket → Symbol → Option State
 key inside Space = Some (at Key inside)
 key inside Quote = Some (at (InString true Plain) inside)
 key inside _ = None
 
+-- after the bracket that opens an object
 abbrev pub first_key : List Bracket → Symbol → Option State
 first_key inside Space = Some (at FirstKey inside)
 first_key inside EndObject = Some (at Behind (drop 1 inside))
 first_key inside Quote = Some (at (InString true Plain) inside)
 first_key inside _ = None
 
+-- after a key
 abbrev pub behind_key : List Bracket → Symbol → Option State
 behind_key inside Space = Some (at BehindKey inside)
 behind_key inside Colon = Some (at Wanted inside)
@@ -190,6 +204,7 @@ abbrev pub in_number : Digits → List Bracket → Symbol → Option Digits → 
 in_number digits inside symbol (Some next) = Some (at (InNumber next) inside)
 in_number digits inside symbol None = if may_end digits then behind inside symbol else None
 
+-- where a byte leads to, by the phase
 abbrev pub by_phase : Phase → List Bracket → ℕ → Option State
 by_phase Wanted inside b = wanted inside (symbol_of b)
 by_phase FirstItem inside b = first_item inside (symbol_of b)
@@ -201,6 +216,7 @@ by_phase (InString a_key w) inside b = option_map (λ phase. at phase inside) (i
 by_phase (InNumber digits) inside b = in_number digits inside (symbol_of b) (in_digits (symbol_of b) digits)
 by_phase (InWord word) inside b = option_map (λ phase. at phase inside) (in_word word b)
 
+-- where a byte leads to from this state
 abbrev pub step : State → ℕ → Option State
 step s b = by_phase s.phase s.inside b
 
@@ -210,9 +226,11 @@ ends Behind = true
 ends (InNumber digits) = may_end digits
 ends _ = false
 
+-- none where a text may not end in this state
 abbrev pub final : State → Option (Unit {0})
 final s = only (ends s.phase && (length s.inside == 0)) tt
 
+-- before the first byte
 abbrev pub start : State
 start = at Wanted []
 
@@ -220,6 +238,7 @@ start = at Wanted []
 unfoldable pub json_reading : List ℕ → Result (Unit {0}) ℕ
 json_reading text = reading step final start text
 
+-- the place of a reading that stops, none of one that doesn't
 abbrev pub wrong_in : Result (Unit {0}) ℕ → Option ℕ
 wrong_in (Ok whole) = None
 wrong_in (Err at) = Some at

@@ -44,7 +44,7 @@ pub(crate) enum Digits {
     /// A first `0`.
     Zero,
     Whole,
-    /// Behind the point.
+    /// After the point.
     Bare,
     Fraction,
     Marked,
@@ -244,7 +244,7 @@ fn wanted(inside: &mut Nesting, symbol: Symbol) -> Option<Phase>
     }
 }
 
-/// Behind a value.
+/// After a value.
 fn behind(inside: &mut Nesting, symbol: Symbol) -> Option<Phase>
     ensures { option_map (λ p. at p inside.new) result ≡ behind inside.old symbol }
 {
@@ -266,7 +266,7 @@ fn behind(inside: &mut Nesting, symbol: Symbol) -> Option<Phase>
     }
 }
 
-/// Behind the bracket that opens an array.
+/// After the bracket that opens an array.
 fn first_item(inside: &mut Nesting, symbol: Symbol) -> Option<Phase>
     ensures { option_map (λ p. at p inside.new) result ≡ first_item inside.old symbol }
 {
@@ -280,7 +280,7 @@ fn first_item(inside: &mut Nesting, symbol: Symbol) -> Option<Phase>
     }
 }
 
-/// Behind the bracket that opens an object.
+/// After the bracket that opens an object.
 fn first_key(inside: &mut Nesting, symbol: Symbol) -> Option<Phase>
     ensures { option_map (λ p. at p inside.new) result ≡ first_key inside.old symbol }
 {
@@ -295,7 +295,7 @@ fn first_key(inside: &mut Nesting, symbol: Symbol) -> Option<Phase>
     }
 }
 
-/// Behind a comma in an object.
+/// After a comma in an object.
 fn key(symbol: Symbol) -> Option<Phase>
     ensures { (inside : List Bracket) → option_map (λ p. at p inside) result ≡ key inside symbol }
 {
@@ -306,7 +306,7 @@ fn key(symbol: Symbol) -> Option<Phase>
     }
 }
 
-/// Behind a key.
+/// After a key.
 fn behind_key(symbol: Symbol) -> Option<Phase>
     ensures { (inside : List Bracket) → option_map (λ p. at p inside) result ≡ behind_key inside symbol }
 {

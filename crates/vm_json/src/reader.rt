@@ -8,8 +8,8 @@ ghost use Rattle.vm_json.specs.Machine.{wrong_place};
 use crate::nesting::Nesting;
 use crate::phase::{Phase, ends, step};
 
-/// The first byte with which the bytes so far begin no JSON text, or their length where they end too
-/// early. None where they are a JSON text. Places count bytes from 0.
+/// The first byte with which the bytes so far begin no JSON text, or their length where they end
+/// too early. None where they are a JSON text. Places count bytes from 0.
 ///
 /// A JSON text is one value with white space around it, in which at most 100 brackets are open at a
 /// place. Its strings are UTF-8. No memory is taken, and the time grows with the length alone.

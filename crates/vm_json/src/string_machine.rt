@@ -9,9 +9,9 @@ ghost use Rattle.vm_json.specs.Machine.{behind_lead, behind_plain, behind_escape
 pub(crate) enum Within {
     /// Between characters.
     Plain,
-    /// Behind a backslash.
+    /// After a backslash.
     Escape,
-    /// Behind `\u`.
+    /// After `\u`.
     FourHex,
     ThreeHex,
     TwoHex,
@@ -20,7 +20,7 @@ pub(crate) enum Within {
     OneTail,
     TwoTails,
     ThreeTails,
-    /// Behind a first byte that narrows the second one down. (Unicode 15.0, table 3-7)
+    /// After a first byte that narrows the second one down. (Unicode 15.0, table 3-7)
     BehindE0,
     BehindED,
     BehindF0,

@@ -1,4 +1,4 @@
--- Turns of the loops over members and items.
+-- Steps of the loops over members and items.
 use Rattle.std.proofs.Common.{◌≡◌, ◌+◌, ℕ, suc, zero, ◌<◌, List, [], ◌∷◌, ◌++◌, length, map, Option, Some, None, refl, ap, sym, ◌∙◌, arith, append_assoc, append-nil, drop, drop-cons, add-one, Bool, false, cond}
 use Rattle.std.specs.Prelude.{option_map, option_and_then, ◌==◌, ◌&&◌, not}
 use Rattle.std.proofs.Math.ListN.{get_or}

@@ -60,7 +60,7 @@ pub number_bytes : (digits : List ℕ) → IsNumber digits → AreNumberBytes di
 number_bytes _ (positive w f e a b c) = parts_bytes w f e a b c
 number_bytes _ (negative w f e a b c) = (refl, parts_bytes w f e a b c)
 
--- ---- behind a value
+-- ---- after a value
 
 -- a byte of numbers and words, and white space, are passed
 record IsPassed (b : ℕ) : Type 0 where
@@ -235,7 +235,7 @@ shorter_spaces : {text rest : List ℕ} → Spaces text rest → length rest ≤
 shorter_spaces no_space = omega arith
 shorter_spaces (a_space b is more) = let less = shorter_spaces more in omega arith
 
--- what follows an item or a member, behind its comma
+-- what follows an item or a member, after its comma
 abbrev Comma : List ℕ → List ℕ → Type 0
 Comma text comma = behind_comma (behind_value 0 Outside text) ≡ comma
 

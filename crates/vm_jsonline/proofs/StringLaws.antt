@@ -175,7 +175,7 @@ wide_utf8 _ (four a b c d p q r s) =
     closed-IsUtf8 0 0 0 (a ∷ b ∷ c ∷ d ∷ []) wide_closed
     (first wide_closed (inr (omega arith)), (second (omega arith) (omega arith) (omega arith), (later (inr (omega arith)) (omega arith) (omega arith), (later (inl (omega arith)) (omega arith) (omega arith), omega arith))))
 
--- a text behind other bytes
+-- a text after other bytes
 put_front : (front : List ℕ) (o : Option (List ℕ)) → IsUtf8 front → ((t : List ℕ) → o ≡ Some t → IsUtf8 t) → (t : List ℕ) → option_map (λ u. front ++ u) o ≡ Some t → IsUtf8 t
 put_front front None utf8 rest t is = absurd (cc is)
 put_front front (Some u) utf8 rest t is = let same : front ++ u ≡ t = cc in subst IsUtf8 same (IsUtf8-append front u utf8 (rest u refl))

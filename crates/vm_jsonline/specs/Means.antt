@@ -8,14 +8,15 @@ use Rattle.vm_jsonline.specs.Series.{outcome}
 use Rattle.vm_jsonline.specs.declared.line.JsonLine.{JsonLine}
 use Rattle.vm_jsonline.specs.declared.line.JsonLine.TheVariants.{Nothing, Rows, Skipped}
 
--- what a line of at most 4,194,304 bytes means, and that a longer one is skipped: white space alone says
--- nothing, and of any other line it is looked at first where it is no JSON
+-- what a line of at most 4,194,304 bytes means, and that a longer one is skipped: white space alone
+-- says nothing, and any other line that is no JSON is skipped where it goes wrong
 pub data IsReading (line : List ℕ) : JsonLine → Type 0 where
   too_long : 4194304 < length line → IsReading line (Skipped 4194304)
   nothing : length line ≤ 4194304 → Spaces line [] → IsReading line Nothing
   broken : length line ≤ 4194304 → (Spaces line [] → ⊥) → (at : ℕ) → FirstWrong IsJson line at → IsReading line (Skipped at)
   written : length line ≤ 4194304 → (x : Json) → Spells line x → IsReading line (outcome x)
 
+-- the rows of what a line means, none where it is skipped
 abbrev pub rows_said : JsonLine → Option (List Row)
 rows_said Nothing = Some []
 rows_said (Rows rows) = Some rows

@@ -7,9 +7,11 @@ use Rattle.vm_decimal.specs.NumberText.{number_text}
 use Rattle.vm_labels.specs.Text.{label_json}
 use Rattle.vm_labels.specs.declared.pair.Pair.{Pair}
 
+-- the text of a sample's value
 abbrev pub value_text : Stamped → List ℕ
 value_text s = number_text s.value
 
+-- the digits of a sample's time
 abbrev pub time_text : Stamped → List ℕ
 time_text s = decimal s.time
 

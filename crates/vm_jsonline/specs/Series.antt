@@ -29,36 +29,43 @@ once [] = None
 once (x ∷ []) = Some x
 once (x ∷ y ∷ xs) = None
 
+-- a member of an object
 pub record Member : Type 0 where
   pub key : List Piece
   pub value : Json
 
+-- the items of an array
 abbrev pub items_of : Jsons → List Json
 items_of no_json = []
 items_of (one_json x xs) = x ∷ items_of xs
 
+-- the members of an object
 abbrev pub members_of : Fields → List Member
 members_of no_field = []
 members_of (one_field key x fs) = record { key = key; value = x } ∷ members_of fs
 
--- the values of the members with this key
+-- whether there is a text, and it is this name
 abbrev pub is_text : List ℕ → Option (List ℕ) → Bool
 is_text name None = false
 is_text name (Some text) = bytes_eq text name
 
+-- the values of the members with this key
 abbrev pub values_at : List ℕ → List Member → List Json
 values_at name [] = []
 values_at name (m ∷ ms) = if is_text name (text_of m.key) then m.value ∷ values_at name ms else values_at name ms
 
 -- ---- labels
 
+-- the text of a string, where the value is one
 abbrev pub string_text : Json → Option (List ℕ)
 string_text (string ps) = text_of ps
 string_text _ = None
 
+-- the label of a member, where its value is a string
 abbrev pub pair_of : Member → Option Pair
 pair_of m = option_and_then (λ name. option_map (λ value. record { name = name; value = value }) (string_text m.value)) (text_of m.key)
 
+-- the labels of an object of strings
 abbrev pub pairs_of : Json → Option (List Pair)
 pairs_of (object fs) = all_of pair_of (members_of fs)
 pairs_of _ = None
@@ -68,6 +75,7 @@ abbrev pub within : List Pair → Option LimitFault → Option (List Pair)
 within labels None = Some labels
 within labels (Some fault) = None
 
+-- the same of pairs that make a label set, or don't
 abbrev pub kept : Result (List Pair) LabelFault → Option (List Pair)
 kept (Ok labels) = within labels (limit_of labels)
 kept (Err fault) = None
@@ -91,21 +99,25 @@ sample_of (number digits) = value_of (sample_reading digits)
 sample_of (string ps) = option_and_then (λ text. no_value (sample_reading text)) (text_of ps)
 sample_of _ = None
 
+-- what the items of an array say
 abbrev pub samples_of : Json → Option (List (Option ℤ))
 samples_of (array xs) = all_of sample_of (items_of xs)
 samples_of _ = None
 
--- digits alone, at most 2^48 - 1
+-- a time that is at most 2^48 - 1
 abbrev pub small_time : ℕ → Option ℕ
 small_time time = if nat_lt time (2 ^ 48) then Some time else None
 
+-- digits alone, at most 2^48 - 1
 abbrev pub time_in : List ℕ → Option ℕ
 time_in digits = if list_all is_ascii_digit digits then small_time (digits_value 10 digits) else None
 
+-- the time of a number, where the value is one
 abbrev pub time_of : Json → Option ℕ
 time_of (number digits) = time_in digits
 time_of _ = None
 
+-- the times of an array
 abbrev pub times_of : Json → Option (List ℕ)
 times_of (array xs) = all_of time_of (items_of xs)
 times_of _ = None
@@ -124,9 +136,11 @@ abbrev pub series_rows : List (Option ℤ) → List ℕ → List Pair → Option
 series_rows values times labels = if length values == length times then Some (rows_of labels values times) else None
 
 infixl 10 ◌>>=◌
+-- one part and then another, none where one of them is none
 abbrev pub ◌>>=◌ : {A B : Type 0} → Option A → (A → Option B) → Option B
 o >>= f = option_and_then f o
 
+-- the rows of a line's members
 abbrev pub member_rows : List Member → Option (List Row)
 member_rows ms = do
   metric ← once (values_at (codes "metric") ms)
@@ -138,6 +152,7 @@ member_rows ms = do
   labels ← kept (built pairs)
   series_rows samples times labels
 
+-- the rows of an object
 abbrev pub rows_in : Json → Option (List Row)
 rows_in (object fs) = member_rows (members_of fs)
 rows_in _ = None
@@ -154,14 +169,17 @@ abbrev mutual
   has_texts (array xs) = have_texts xs
   has_texts (object fs) = fields_have_texts fs
 
+  -- the same of the items of an array
   pub have_texts : Jsons → Bool
   have_texts no_json = true
   have_texts (one_json x xs) = has_texts x && have_texts xs
 
+  -- the same of the members of an object
   pub fields_have_texts : Fields → Bool
   fields_have_texts no_field = true
   fields_have_texts (one_field key x fs) = is_some (text_of key) && (has_texts x && fields_have_texts fs)
 
+-- the rows, or else that the line is skipped at 0
 abbrev pub or_skipped : Option (List Row) → JsonLine
 or_skipped None = Skipped 0
 or_skipped (Some rows) = Rows rows

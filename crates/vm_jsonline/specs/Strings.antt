@@ -20,14 +20,16 @@ is_low = is_in_range 0xDC00 0xDFFF
 abbrev pub joined : ℕ → ℕ → ℕ
 joined high low = 0x10000 + high % 0x400 * 0x400 + low % 0x400
 
--- a character in front, where it is one
+-- whether a number is that of a character
 abbrev pub is_char : ℕ → Bool
 is_char c = nat_lt c 0xD800 || is_in_range 0xE000 0x10FFFF c
 
+-- a character in front, where it is one
 abbrev pub with_char : ℕ → Option (List ℕ) → Option (List ℕ)
 with_char c rest = if is_char c then option_map (λ t. encode_utf8 c ++ t) rest else None
 
--- the UTF-8 of these pieces, behind the first half of a pair or not, and none where half a pair stands alone
+-- the UTF-8 of these pieces, after the first half of a pair or not, and none where half a pair
+-- stands alone
 abbrev pub text_from : Option ℕ → List Piece → Option (List ℕ)
 text_from None [] = Some []
 text_from (Some high) [] = None
@@ -36,21 +38,23 @@ text_from (Some high) (byte b ∷ more) = None
 text_from None (unit u ∷ more) = if is_high u then text_from (Some u) more else with_char u (text_from None more)
 text_from (Some high) (unit u ∷ more) = if is_low u then with_char (joined high u) (text_from None more) else None
 
+-- the UTF-8 of these pieces, none where half a pair stands alone
 abbrev pub text_of : List Piece → Option (List ℕ)
 text_of = text_from None
 
 -- ---- the pieces of what stands between the quotes, as they are read
 
--- the code unit of a letter behind a backslash
+-- the code unit of a letter after a backslash
 abbrev pub letter_unit : ℕ → ℕ
 letter_unit b =
     if b == 98 then 8 else (if b == 102 then 12 else (if b == 110 then 10 else (if b == 114 then 13
     else (if b == 116 then 9 else b))))
 
+-- a code unit of 16 bits with one more digit
 abbrev pub with_digit : ℕ → ℕ → ℕ
 with_digit value b = value % 0x1000 * 16 + digit_value b
 
--- behind nothing that is open, a backslash, or digits of `\uXXXX`
+-- the pieces of bytes where nothing is open, after a backslash, or within `\uXXXX`
 abbrev pub pieces : Pending → List ℕ → List Piece
 pieces pending [] = []
 pieces Nothing (b ∷ more) = if b == 92 then pieces Slash more else byte b ∷ pieces Nothing more
@@ -65,9 +69,11 @@ given givens.Lone rest = None
 given (givens.Byte b) rest = option_map (λ t. b ∷ t) rest
 given (givens.Char c) rest = option_map (λ t. encode_utf8 c ++ t) rest
 
+-- what bytes between quotes stand for, none where half a pair stands alone
 abbrev pub raw_text : List ℕ → Option (List ℕ)
 raw_text raw = text_of (pieces Nothing raw)
 
+-- the bytes, where they are UTF-8
 abbrev pub utf8_only : List ℕ → Option (List ℕ)
 utf8_only text = if is_utf8 text then Some text else None
 

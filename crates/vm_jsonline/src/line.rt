@@ -28,18 +28,18 @@ pub enum JsonLine {
 
 /// Reads one line, without the line feed that ends it.
 ///
-/// A line is a JSON object with the members `metric`, an object of strings, `values`, an array of numbers,
-/// nulls and texts that say that there is no number, and `timestamps`, an array of as many whole numbers of
-/// milliseconds, from 0 to 2^48 - 1, written in digits alone. Each of the three stands there once; others are
-/// ignored. A null and a text give no row.
+/// A line is a JSON object with the members `metric`, an object of strings, `values`, an array of
+/// numbers, nulls and texts that say that there is no number, and `timestamps`, an array of as many
+/// whole numbers of milliseconds, from 0 to 2^48 - 1, written in digits alone. Each of the three
+/// stands there once; others are ignored. A null and a text give no row.
 ///
-/// `Skipped` names the first byte with which the bytes so far begin no JSON text of at most 100 levels, or the
-/// line's length where it ends too early. Of a JSON text it names 0 where the text is no such object, a string
-/// holds half a pair of UTF-16, a value is out of range, or the labels make no label set or one beyond the
-/// limits of an import.
+/// `Skipped` names the first byte with which the bytes so far begin no JSON text of at most 100
+/// levels, or the line's length where it ends too early. Of a JSON text it names 0 where the text
+/// is no such object, a string holds half a pair of UTF-16, a value is out of range, or the labels
+/// make no label set or one beyond the limits of an import.
 ///
-/// A line of more than 4,194,304 bytes is `Skipped` at 4,194,304 whatever it holds, since a reader of a stream
-/// never holds such a line as a whole. An `Err` says that memory ran out.
+/// A line of more than 4,194,304 bytes is `Skipped` at 4,194,304 whatever it holds, since a reader
+/// of a stream never holds such a line as a whole. An `Err` says that memory ran out.
 ///
 /// (VictoriaMetrics documentation, "JSON line format"; RFC 8259)
 pub fn read_line(alloc: Global, line: &[u8]) -> Result<JsonLine, AllocError>
@@ -79,7 +79,7 @@ fn short_line(alloc: Global, line: &[u8]) -> Result<JsonLine, AllocError>
     json_line(alloc, line, text)
 }
 
-/// Reads a line that is JSON, which stands in it behind white space.
+/// Reads a line that is JSON, which stands in it after white space.
 fn json_line(alloc: Global, line: &[u8], text: &[u8]) -> Result<JsonLine, AllocError>
     ensures { IfOk result (λ said. said ≡ or_skipped (line_rows line.now text.now)) }
 {

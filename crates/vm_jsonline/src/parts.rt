@@ -11,7 +11,7 @@ pub(crate) enum Mode {
     Outside,
     /// In a string.
     Inside,
-    /// In a string behind a backslash.
+    /// In a string after a backslash.
     Escaped,
 }
 
@@ -22,8 +22,8 @@ pub(crate) struct Item<'a> {
     pub(crate) rest: &'a [u8],
 }
 
-/// What stands between the quotes of a member's key, a text that begins with its value, and what follows
-/// its comma.
+/// What stands between the quotes of a member's key, a text that begins with its value, and what
+/// follows its comma.
 #[derive(Clone, Copy)]
 pub(crate) struct Member<'a> {
     pub(crate) key: &'a [u8],
@@ -37,7 +37,7 @@ fn is_space(byte: u8) -> bool
     matches!(byte, b' ' | b'\t' | b'\n' | b'\r')
 }
 
-/// What stands behind any white space.
+/// What stands after any white space.
 pub(crate) fn behind_spaces(text: &[u8]) -> &[u8]
     ensures value { result.now ≡ behind_spaces text.now }
     ensures within { length result.now ≤ length text.now }
@@ -71,7 +71,7 @@ fn quote_place(text: &[u8]) -> Option<usize>
     None
 }
 
-/// What stands between the quotes, behind the first, and the rest.
+/// What stands between the quotes, after the first, and the rest.
 pub(crate) fn string_at(text: &[u8]) -> Option<(&[u8], &[u8])>
     ensures { option_map (λ s. (s.0.now, s.1.now)) result ≡ string_at text.now }
 {
@@ -131,7 +131,7 @@ fn behind_value(text: &[u8]) -> &[u8]
     &text[text.len()..]
 }
 
-/// What follows the comma behind the value at the front, nothing where there is none.
+/// What follows the comma after the value at the front, nothing where there is none.
 fn next_start(value: &[u8]) -> &[u8]
     ensures { result.now ≡ next_start value.now }
 {
@@ -170,7 +170,7 @@ pub(crate) fn next_member(text: &[u8]) -> Option<Member<'_>>
     }
 }
 
-/// The member with this key, behind whose last quote this stands.
+/// The member with this key, where a colon follows it.
 fn with_colon<'a>(key: &'a [u8], behind: &'a [u8]) -> Option<Member<'a>>
     ensures { option_map (λ m. record { key = m.key.now; value = m.value.now; rest = m.rest.now }) result ≡ with_colon (key.now, behind.now) }
 {

@@ -11,9 +11,10 @@ use vm_base::{Sample, Stamped};
 use vm_decimal::Dec;
 use vm_labels::Labels;
 
-/// Appends the samples of a series to `out` as one line of JSON, without a line feed: `metric` with the labels
-/// in their order, `values`, `timestamps` in milliseconds, and no spaces. Strings are written as `serde_json`
-/// writes them, and numbers as `Dec` prints them. `out` stays as it was where memory runs out.
+/// Appends the samples of a series to `out` as one line of JSON, without a line feed: `metric` with
+/// the labels in their order, `values`, `timestamps` in milliseconds, and no spaces. Strings are
+/// written as `serde_json` writes them, and numbers as `Dec` prints them. `out` stays as it was
+/// where memory runs out.
 ///
 /// (VictoriaMetrics documentation, "JSON line format")
 pub fn print_series(

@@ -16,14 +16,15 @@ use std::alloc::{AllocError, Global};
 use vm_base::{List, Sample};
 use vm_labels::{LabelFault, Labels, Pair, Row};
 
-/// A member of the line: what stands between the quotes of its key, and a text that begins with its value.
+/// A member of the line: what stands between the quotes of its key, and a text that begins with its
+/// value.
 #[derive(Clone, Copy)]
 struct Part<'a> {
     key: &'a [u8],
     value: &'a [u8],
 }
 
-/// The rows of a text that is known to be JSON, behind any white space.
+/// The rows of a text that is known to be JSON, after any white space.
 #[tactic(auto, unfolding(crate::specs::Reading::rows_reading))]
 pub(crate) fn read_rows(alloc: Global, text: &[u8]) -> Result<List<Row>, Stop>
     ensures { Gives (λ rows. rows) result (rows_reading text.now) }

@@ -16,7 +16,7 @@ pub(crate) enum Pending {
     Nothing,
     /// A backslash.
     Slash,
-    /// So many digits of `\uXXXX` are left behind the next, and what the ones so far write.
+    /// So many digits of `\uXXXX` are left after the next, and what the ones so far write.
     Hexes(u8, u32),
 }
 
@@ -60,7 +60,7 @@ impl Decoder {
         }
     }
 
-    /// Reads a byte behind nothing that is open.
+    /// Reads a byte where nothing is open.
     fn plain(self, byte: u8) -> (Decoder, Given)
         ensures { (more : List ℕ) → text_from self.high (pieces pendings.Nothing (byte ∷ more))
             ≡ given_of result.1 (text_from result.0.high (pieces result.0.pending more)) }
@@ -75,7 +75,7 @@ impl Decoder {
         }
     }
 
-    /// Reads a byte behind a backslash.
+    /// Reads a byte after a backslash.
     fn escaped(self, byte: u8) -> (Decoder, Given)
         ensures { (more : List ℕ) → text_from self.high (pieces pendings.Slash (byte ∷ more))
             ≡ given_of result.1 (text_from result.0.high (pieces result.0.pending more)) }
@@ -135,7 +135,7 @@ fn char_given(code: u32) -> Given
     }
 }
 
-/// The code unit of a letter behind a backslash.
+/// The code unit of a letter after a backslash.
 fn letter_unit(letter: u8) -> u32
     ensures { result ≡ letter_unit letter }
 {

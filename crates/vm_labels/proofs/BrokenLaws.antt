@@ -13,7 +13,7 @@ use Rattle.vm_labels.specs.declared.pair.Pair.{Pair}
 use Rattle.vm_labels.specs.declared.fault.LimitFault.{LimitFault}
 use Rattle.vm_labels.proofs.ReadLaws.{IsBytes, IsNext, bind_ok, number_took, text_took, pair_took, fields_took, follow_labels}
 
--- ---- a fault behind a field
+-- ---- a fault after a field
 
 abbrev pub Breaks : Next → List ℕ → ℕ → Type 0
 Breaks next bytes left = (rest : List ℕ) × BreaksAt next bytes rest × (left ≡ length rest)

@@ -1,5 +1,5 @@
--- What building makes is a label set: names that rise are in order and stand once, and pairs in order
--- whose names stand once rise.
+-- What building makes is a label set: names that rise are in order and stand once, and pairs in
+-- order whose names stand once rise.
 use Rattle.std.proofs.Common.{Bor, ◌≡◌, ℕ, zero, suc, ◌+◌, ◌-◌, ◌<◌, ◌≤◌, Bool, true, false, cond, not, ◌&&◌, ◌||◌, List, [], ◌∷◌, length, drop, get_or, filter, Option, Some, None, Ok, Ordering, Less, Equal, Greater, is_lt, refl, sym, ap, subst, ◌∙◌, true≢false, arith, count_by, take, map, reverse}
 use Rattle.std.specs.Prelude.{bytes_eq, position, option_map, find}
 use Rattle.std.specs.BTreeSet.{insert_key}
@@ -253,7 +253,7 @@ names_before-more ps i d within =
     ∙ ap reverse (map_push (λ p. p.name) (take i ps) (get_or ps i d))
     ∙ reverse-append (map (λ p. p.name) (take i ps)) ((get_or ps i d).name ∷ [])
 
--- the next pair's name is new, so the search goes on behind it
+-- the next pair's name is new, so the search goes on after it
 pub twice_step : (ps : List Pair) (i : ℕ) (p : Pair) (found : Option (List ℕ)) → i < length ps → p ≡ get_or ps i p
     → is_among (names_before i ps) p.name ≡ false → twice_named (names_before i ps) (drop i ps) ≡ found → twice_named (names_before (i + 1) ps) (drop (i + 1) ps) ≡ found
 twice_step ps i p found within is new so_far =

@@ -1,5 +1,5 @@
--- What stays at the front of an output, how long the texts of a set within the limits are, and which
--- texts are UTF-8.
+-- What stays at the front of an output, how long the texts of a set within the limits are, and
+-- which texts are UTF-8.
 use Rattle.std.proofs.Common.{◌≡◌, ℕ, zero, suc, ◌+◌, ◌<◌, ◌≤◌, Bool, true, false, cond, not, ◌||◌, eqb, ltb, List, [], ◌∷◌, ◌++◌, length, take, drop, get_or, Option, Some, None, refl, sym, ap, subst, ◌∙◌, append_assoc, arith, true≢false}
 use Rattle.std.specs.Prelude.{position, option_map, IsAscii}
 use Rattle.std.specs.List.{AllByRecursion, list_all, position_from}
@@ -17,7 +17,7 @@ use Rattle.vm_labels.specs.declared.pair.Pair.{Pair}
 use Rattle.vm_labels.specs.declared.fault.LimitFault.TheVariants.{NoLabel, TooMany, TooLong}
 use Rattle.vm_labels.proofs.OrderLaws.{both_true, and_true}
 
--- what stood before still stands there, where more was put behind it
+-- what stood before still stands there, where more was put after it
 pub kept_on : (a b c more : List ℕ) → b ≡ a ++ more → take (length b) c ≡ b → take (length a) c ≡ a
 kept_on a b c more is kept =
     ap (take (length a)) (sym (take-append-drop (length b) c) ∙ ap (λ t. t ++ drop (length b) c) (kept ∙ is) ∙ append_assoc a more (drop (length b) c))

@@ -125,7 +125,7 @@ text_again rule text rest kept small =
 
 -- ---- pairs
 
--- what a pair is that stands behind a name
+-- what a pair is that stands after a name
 pub record IsNext (last : Option (List ℕ)) (p : Pair) : Type 0 where
   pub name : is_next_name last p.name ≡ true
   pub value : is_value p.value ≡ true
@@ -150,7 +150,7 @@ pair_again last p rest next =
     let regrouped : pair_bytes p ++ rest ≡ text_bytes p.name ++ (text_bytes p.value ++ rest) = append_assoc (text_bytes p.name) (text_bytes p.value) rest in
     ap (pair_at last) regrouped ∙ rw (text_again (is_next_name last) p.name (text_bytes p.value ++ rest) next.name next.short_name, text_again is_value p.value rest next.value next.short_value) refl
 
--- pairs, each of which stands behind the one before
+-- pairs, each of which stands after the one before
 abbrev pub Follow : Option (List ℕ) → List Pair → Type 0
 Follow last [] = Unit {0}
 Follow last (p ∷ ps) = IsNext last p × Follow (Some p.name) ps
@@ -227,7 +227,7 @@ follow_texts last (p ∷ ps) all = (IsUtf8-from_is_utf8 p.value (both_true (has_
 pub follow_labels : (ps : List Pair) → Follow None ps → IsLabels ps
 follow_labels ps all = record { named = follow_names None ps all; valued = follow_values None ps all; rising = follow_rise None ps all }
 
--- a name behind the last one, where there is one
+-- a name after the last one, where there is one
 all_above : Option (List ℕ) → List Pair → Type 0
 all_above None ps = Unit {0}
 all_above (Some last) ps = list_all (λ q. is_below last q.name) ps ≡ true

@@ -118,7 +118,7 @@ later_json : (p : Pair) (ts : List Token) → print_from true (pair_tokens p ++ 
 unfolding print_from
 later_json p ts = simp append_assoc
 
--- what stands behind a pair
+-- what stands after a pair
 abbrev json_tail : List Pair → List ℕ
 json_tail [] = 125 ∷ []
 json_tail (p ∷ ps) = 44 ∷ (pair_json p ++ json_tail ps)

@@ -17,6 +17,7 @@ use Rattle.vm_labels.specs.declared.fault.ReadFault.TheVariants.{Broken}
 abbrev pub text_bytes : List ℕ → List ℕ
 text_bytes text = to_be_bytes w16 (length text) ++ text
 
+-- the bytes of a name and of its value
 abbrev pub pair_bytes : Pair → List ℕ
 pair_bytes p = text_bytes p.name ++ text_bytes p.value
 
@@ -32,18 +33,18 @@ pub record HasBytes (pairs : List Pair) : Type 0 where
 
 -- ---- reading from left to right
 
--- A reader of a front answers with what it read and the bytes behind that. It tells a fault by how many
--- bytes stand from it on, so that no reader has to know its own place.
+-- A reader of a front answers with what it read and the bytes after that. It tells a fault by how
+-- many bytes stand from it on, so that no reader has to know its own place.
 infixl 10 ◌>>=◌
 abbrev pub ◌>>=◌ : {A B : Type 0} → Result A ℕ → (A → Result B ℕ) → Result B ℕ
 (Ok x) >>= f = f x
 (Err left) >>= f = Err left
 
--- a number of two bytes, and what stands behind it
+-- a number of two bytes, and what stands after it
 abbrev pub number_at : List ℕ → Result (ℕ × List ℕ) ℕ
 number_at bytes = if nat_lt (length bytes) 2 then Err (length bytes) else Ok (from_be_bytes w16 (take 2 bytes), drop 2 bytes)
 
--- so many bytes, and what stands behind them
+-- so many bytes, and what stands after them
 abbrev pub cut_at : ℕ → List ℕ → Result (List ℕ × List ℕ) ℕ
 cut_at n bytes = if nat_lt (length bytes) n then Err (length bytes) else Ok (take n bytes, drop n bytes)
 
@@ -62,21 +63,23 @@ text_at rule bytes = do
   text ← cut_at n.0 n.1
   ruled rule n.1 text
 
--- a name that stands behind the one before it
+-- a name that stands after the one before it
 abbrev pub is_next_name : Option (List ℕ) → List ℕ → Bool
 is_next_name None name = is_name name
 is_next_name (Some last) name = is_name name && is_below last name
 
+-- whether a text is a value: UTF-8, and not empty
 abbrev pub is_value : List ℕ → Bool
 is_value value = not (length value == 0) && is_utf8 value
 
+-- a name after the last one, and its value
 unfoldable pub pair_at : Option (List ℕ) → List ℕ → Result (Pair × List ℕ) ℕ
 pair_at last bytes = do
   name ← text_at (is_next_name last) bytes
   value ← text_at is_value name.1
   Ok (record { name = name.0; value = value.0 }, value.1)
 
--- so many pairs, behind a name
+-- so many pairs, after a name
 unfoldable pub pairs_at : ℕ → Option (List ℕ) → List ℕ → Result (List Pair × List ℕ) ℕ
 pairs_at zero last bytes = Ok ([], bytes)
 pairs_at (suc n) last bytes = do
@@ -104,8 +107,9 @@ abbrev pub placed : ℕ → Result (List Pair) ℕ → Result (List Pair) ℕ
 placed total (Err left) = Err (total - left)
 placed total (Ok pairs) = limited pairs
 
--- The label set whose bytes these are, or the place of the first fault: at the first field that is cut off
--- or breaks its rule, at the bytes left over, or else at 0 where the limits of an import are broken.
+-- The label set whose bytes these are, or the place of the first fault: at the first field that is
+-- cut off or breaks its rule, at the bytes left over, or else at 0 where the limits of an import
+-- are broken.
 unfoldable pub label_set_of : List ℕ → Result (List Pair) ℕ
 label_set_of bytes = placed (length bytes) (fields_of bytes)
 
@@ -125,7 +129,8 @@ NoneBeginsAnother = (pairs others : List Pair) (more rest : List ℕ) → HasByt
 
 -- ---- what calls give
 
--- A reader of a front, whose answer is seen by view, gives what the definition says, unless memory ran out.
+-- A reader of a front, whose answer is seen by view, gives what the definition says, unless memory
+-- ran out.
 abbrev pub Stops : {Y : Type 0} → Stop → Result Y ℕ → Type 0
 Stops stops.Memory read = ⊤
 Stops (At left) read = read ≡ Err left
@@ -135,6 +140,7 @@ abbrev pub fault_of : ℕ → Stop → ReadFault
 fault_of total stops.Memory = faults.Memory
 fault_of total (At left) = Broken (total - left)
 
+-- the whole answer of such a reader
 abbrev pub Takes : {X Y : Type 0} → (X → Y) → Result X Stop → Result Y ℕ → Type 0
 Takes view (Ok x) read = read ≡ Ok (view x)
 Takes view (Err stop) read = Stops stop read
@@ -144,6 +150,7 @@ abbrev pub Breaks : ReadFault → Result (List Pair) ℕ → Type 0
 Breaks faults.Memory read = ⊤
 Breaks (Broken at) read = read ≡ Err at
 
+-- the whole answer of such a reader
 abbrev pub Reads : Result (List Pair) ReadFault → Result (List Pair) ℕ → Type 0
 Reads (Ok labels) read = read ≡ Ok labels
 Reads (Err fault) read = Breaks fault read

@@ -16,8 +16,8 @@ passes whole Differs text value = not (bytes_eq value text)
 passes whole Matches text value = whole text value
 passes whole MatchesNot text value = not (whole text value)
 
--- Whether a label set meets a filter. A label that it lacks has the empty value; `whole` says whether
--- a pattern matches a value from end to end.
+-- Whether a label set meets a filter. A label that it lacks has the empty value; `whole` says
+-- whether a pattern matches a value from end to end.
 abbrev pub meets : (List ℕ → List ℕ → Bool) → Filter → List Pair → Bool
 meets whole f labels = passes whole f.op f.value (value_in f.name labels)
 

@@ -68,7 +68,7 @@ fn has_value(pair: &Pair) -> bool
     !pair.value.is_empty()
 }
 
-/// Whether each name stands strictly before the next one, and so before all that follow.
+/// Whether each name comes strictly before the next one, and so before all that follow.
 fn names_rise(pairs: &[Pair]) -> bool
     ensures { result ≡ names_rise pairs.now }
 {

@@ -61,10 +61,10 @@ impl Labels {
 
     /// The label set whose bytes these are, all of them.
     ///
-    /// `Broken` names the first byte of the first field, a number, a length, a name or a value, that
-    /// is cut off or breaks its rule: a name is a name and stands behind the one before it, a value
-    /// is UTF-8 and not empty. Where bytes are left over it is the first of them. A label set that
-    /// has none of these faults and breaks a limit of an import is `Broken` at 0.
+    /// `Broken` names the first byte of the first field, a number, a length, a name or a value,
+    /// that is cut off or breaks its rule: a name is a name and stands after the one before it, a
+    /// value is UTF-8 and not empty. Where bytes are left over it is the first of them. A label set
+    /// that has none of these faults and breaks a limit of an import is `Broken` at 0.
     pub fn read(alloc: Global, bytes: &[u8]) -> Result<Labels, ReadFault>
         // What is read was written.
         ensures found { IfOk result (λ pairs. HasBytes pairs × (bytes.now ≡ label_set_bytes pairs)) }
@@ -176,7 +176,7 @@ fn made(alloc: Global, name: &str, value: &str) -> Result<Pair, AllocError>
     Ok(Pair { name, value })
 }
 
-/// The texts of a pair that stands behind the last name, and the bytes behind it.
+/// The texts of a pair that stands after the last name, and the bytes after it.
 #[tactic(auto, unfolding(crate::specs::Bytes::pair_at))]
 fn pair_at<'a>(last: Option<&str>, bytes: &'a [u8]) -> Result<(&'a str, &'a str, &'a [u8]), Stop>
     ensures { Takes (λ x. (record { name = x.0.now; value = x.1.now }, x.2.now)) result (pair_at (option_copied last.entry) bytes.now) }
@@ -186,7 +186,7 @@ fn pair_at<'a>(last: Option<&str>, bytes: &'a [u8]) -> Result<(&'a str, &'a str,
     Ok((name, value, rest))
 }
 
-/// A name that stands behind the last one, and the bytes behind it.
+/// A name that stands after the last one, and the bytes after it.
 #[tactic(auto, unfolding(crate::specs::Bytes::text_at))]
 fn name_at<'a>(last: Option<&str>, bytes: &'a [u8]) -> Result<(&'a str, &'a [u8]), Stop>
     ensures { Takes (λ x. (x.0.now, x.1.now)) result (text_at (is_next_name (option_copied last.entry)) bytes.now) }
@@ -199,7 +199,7 @@ fn name_at<'a>(last: Option<&str>, bytes: &'a [u8]) -> Result<(&'a str, &'a [u8]
     }
 }
 
-/// A value, and the bytes behind it.
+/// A value, and the bytes after it.
 #[tactic(auto, unfolding(crate::specs::Bytes::text_at))]
 fn value_at(bytes: &[u8]) -> Result<(&str, &[u8]), Stop>
     ensures { Takes (λ x. (x.0.now, x.1.now)) result (text_at is_value bytes.now) }
@@ -212,7 +212,7 @@ fn value_at(bytes: &[u8]) -> Result<(&str, &[u8]), Stop>
     }
 }
 
-/// The text that these bytes are, where it is a name behind the last one.
+/// The text that these bytes are, where it is a name after the last one.
 fn as_name<'a>(last: Option<&str>, bytes: &'a [u8]) -> Option<&'a str>
     ensures { option_copied result ≡ only_if (is_next_name (option_copied last.entry)) bytes.now }
 {
@@ -247,7 +247,7 @@ fn is_next_name(last: Option<&str>, name: &str) -> bool
     }
 }
 
-/// So many bytes, and those behind them.
+/// So many bytes, and those after them.
 fn cut_at(len: u16, bytes: &[u8]) -> Result<(&[u8], &[u8]), Stop>
     ensures { Takes (λ x. (x.0.now, x.1.now)) result (cut_at len bytes.now) }
 {
@@ -258,7 +258,7 @@ fn cut_at(len: u16, bytes: &[u8]) -> Result<(&[u8], &[u8]), Stop>
     Ok(bytes.split_at(len))
 }
 
-/// A number of two bytes, and the bytes behind it.
+/// A number of two bytes, and the bytes after it.
 fn number_at(bytes: &[u8]) -> Result<(u16, &[u8]), Stop>
     ensures { Takes (λ x. (x.0, x.1.now)) result (number_at bytes.now) }
 {

@@ -13,7 +13,8 @@ pub enum LabelFault {
     /// A name isn't `[A-Za-z_:][A-Za-z0-9_:]*`. This is the place of the first such pair among the
     /// pairs that were given, counted from 0.
     BadName { index: u64 },
-    /// Two pairs have one name. Of the pairs whose name an earlier pair has, the first has this one.
+    /// Two pairs have one name. Of the pairs whose name an earlier pair has, the first has this
+    /// one.
     TwiceNamed { name: Text },
     /// Memory ran out.
     Memory,

@@ -8,9 +8,11 @@ use vm_base::{List, Sample, Stamped};
 /// A sample of the series that has these labels.
 #[derive(Debug, Drop)]
 pub struct Row {
+    /// The labels of the series.
     pub labels: Labels,
     /// Milliseconds since the Unix epoch.
     pub time: u64,
+    /// The value at that time.
     pub value: Sample,
 }
 
@@ -29,5 +31,6 @@ impl Row {
 /// Rows that are stored together or not at all.
 #[derive(Debug, Drop)]
 pub struct Batch {
+    /// Its rows.
     pub rows: List<Row>,
 }

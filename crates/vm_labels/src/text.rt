@@ -13,7 +13,7 @@ use std::mem;
 impl Labels {
     /// Appends the set as `{a="b",c="d"}` to `out`, which stays as it was where memory runs out.
     ///
-    /// The labels stand by name. In a value a backslash, a quote and a line feed are written as
+    /// The labels are by name. In a value a backslash, a quote and a line feed are written as
     /// `\\`, `\"` and `\n`. (Prometheus text format 0.0.4, "Line format")
     pub fn print(&self, out: &mut Vec<u8>) -> Result<(), AllocError>
         ensures ok { OnOk result (out.new.items ≡ out.old.items ++ label_text self.now) }
@@ -27,8 +27,8 @@ impl Labels {
         written
     }
 
-    /// Appends the set as a JSON object of strings to `out`, which stays as it was where memory runs
-    /// out. The labels stand by name, without spaces, and strings as `serde_json` writes them.
+    /// Appends the set as a JSON object of strings to `out`, which stays as it was where memory
+    /// runs out. The labels are by name, without spaces, and strings as `serde_json` writes them.
     pub fn print_json(&self, out: &mut Vec<u8>) -> Result<(), AllocError>
         ensures ok { OnOk result (out.new.items ≡ out.old.items ++ label_json self.now) }
         ensures err { OnErr result (out.new.items ≡ out.old.items) }

@@ -18,7 +18,7 @@ use Rattle.vm_decimal.proofs.PrintedTexts.{drop_digits, take_digits, append_digi
 use Rattle.vm_json.specs.Grammar.{IsDigits, IsWhole, nought, whole, IsFraction, no_fraction, fraction as a_fraction, is_sign, IsExponent, no_exponent, signed_exponent, IsNumber, positive, negative}
 use Rattle.vm_jsonline.specs.Series.{value_of}
 
--- the digits of a number above 0, of which the first isn't a nought
+-- the digits of a number above 0, of which the first isn't a zero
 
 digit_from_value : (b : ℕ) → digit_value b < 10 → is_ascii_digit b ≡ true
 digit_from_value b few = grind (arith, nat_tests)

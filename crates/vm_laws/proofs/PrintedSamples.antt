@@ -31,7 +31,7 @@ nearest-multiple a d some =
     IsNearest-one (a * d) d (nearest (a * d) d) a some (nearest-IsNearest (a * d) d some)
     (IsNearest-whole (a * d) d a 0 (omega arith) (omega arith) (λ tie. absurd (omega arith)))
 
--- of a number of at most 18 digits and noughts, no more stand behind the first 18 than the noughts
+-- of a number of at most 18 digits and zeros, no more stand after the first 18 than the zeros
 surplus-noughts : (more size k : ℕ) → size < 10 ^ 18 → surplus_within more (size * 10 ^ k) ≤ k
 unfolding surplus_within
 surplus-noughts zero size k few = omega arith
@@ -45,7 +45,7 @@ surplus-noughts (suc more) size (suc k) few =
     omega (arith, surplus-many more n long ∙ ap (λ m. surplus_within more m + 1) rest, surplus-noughts more size k few))
     (cases_lt (size * 10 ^ suc k) (10 ^ 18))
 
--- few noughts stand behind a number that has few digits with them
+-- few zeros stand after a number that has few digits with them
 short_of : (a n : ℕ) → 0 < a → a * 10 ^ n ≤ 10 ^ 18 → n < 20
 short_of a n above few =
     ⊎_elim (λ less. less)
@@ -55,7 +55,7 @@ short_of a n above few =
     absurd (omega arith))
     (cases_lt n 20)
 
--- noughts at the end count as well in the exponent
+-- zeros at the end count as well in the exponent
 sample_of-noughts : (minus : Bool) (size k : ℕ) (e : ℤ) → size * 10 ^ k ≤ 10 ^ 18
     → sample_of (signed minus (size * 10 ^ k)) e ≡ sample_of (signed minus size) (e +ℤ pos k)
 sample_of-noughts minus size k e few =
@@ -83,7 +83,7 @@ sample_of-noughts minus size k e few =
         ∙ sym (ap (λ n. sample_of (signed minus n) (e +ℤ pos k)) (sym b.whole)
         ∙ sample_of-placed minus b.digits b.noughts b.last (omega arith) (omega arith) (e +ℤ pos k) shift refl)
 
--- a number of at most 18 digits and noughts isn't rounded
+-- a number of at most 18 digits and zeros isn't rounded
 sample_value-noughts : (minus : Bool) (size k : ℕ) (e : ℤ) → size < 10 ^ 18
     → sample_value (spelling minus (size * 10 ^ k) e) ≡ sample_of (signed minus size) (e +ℤ pos k)
 sample_value-noughts minus size k e few =

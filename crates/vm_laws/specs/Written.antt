@@ -15,7 +15,8 @@ use Rattle.vm_jsonline.specs.declared.line.JsonLine.TheVariants.{Rows}
 abbrev pub IsOfSample : Stamped → Type 0
 IsOfSample s = is_sample s.value ≡ true
 
--- a label set within the limits of an import, of UTF-8, and samples within theirs, in a line that isn't too long
+-- a label set within the limits of an import, of UTF-8, and samples within theirs, in a line that
+-- isn't too long
 pub record CanBeRead (labels : List Pair) (samples : List Stamped) : Type 0 where
   pub label_set : IsLabels labels
   pub limits : limit_of labels ≡ None
@@ -24,9 +25,11 @@ pub record CanBeRead (labels : List Pair) (samples : List Stamped) : Type 0 wher
   pub times : AllByRecursion (λ s. s.time < 2 ^ 48) samples
   pub short : length (series_text labels samples) ≤ 4194304
 
+-- the row of a sample
 abbrev pub row_of : List Pair → Stamped → Row
 row_of labels s = record { labels = labels; time = s.time; value = s.value }
 
+-- the rows of a series, as a line says them
 abbrev pub rows_again : List Pair → List Stamped → JsonLine
 rows_again labels samples = Rows (map (row_of labels) samples)
 

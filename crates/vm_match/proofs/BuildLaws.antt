@@ -21,7 +21,7 @@ pub is_bad : (IsPattern : List ℕ → Type 0) (text copy given : List ℕ) → 
 is_bad IsPattern text copy given e f isnt =
     (is_reached IsPattern text copy e, λ p. isnt (subst IsPattern (e ∙ sym f) p))
 
--- a text that is reached stays so where more texts stand behind, or patterns before
+-- a text that is reached stays so with more texts after it, or patterns before it
 pub reached_within : (IsPattern : List ℕ → Type 0) (xs ys zs : List (List ℕ)) (text : List ℕ)
     → All IsPattern xs → IsReached IsPattern ys text → IsReached IsPattern (xs ++ (ys ++ zs)) text
 reached_within IsPattern xs ys zs text good (before, after, e, all) = (
@@ -42,7 +42,7 @@ cause_within IsPattern xs ys zs a b c (PatternRefused text) good le (reached, ro
     (reached_within IsPattern xs ys zs text good reached, omega (arith, rose))
 cause_within IsPattern xs ys zs a b c Memory good le cause = tt
 
--- An item of a list parts what is made of its items. `d` is what would stand past its end.
+-- What is made of a list's items, parted at one of them. `d` is what would be past the list's end.
 pub parted : {X : Type 0} (f : X → List (List ℕ)) (xs : List X) (i : ℕ) (x d : X)
     → i < length xs → x ≡ get_or xs i d
     → flat_map f xs ≡ flat_map f (take i xs) ++ (f x ++ flat_map f (drop (suc i) xs))

@@ -29,8 +29,8 @@ abbrev pub IsReached : (List ℕ → Type 0) → List (List ℕ) → List ℕ �
 IsReached IsPattern texts text = (before : List (List ℕ)) × (after : List (List ℕ))
     × (texts ≡ before ++ text ∷ after) × All IsPattern before
 
--- What each fault says of the texts, in order, and of the count of refusals before and now: the first that
--- is no pattern, one that was refused and counted, or nothing.
+-- What each fault says of the texts, in order, and of the count of refusals before and now: the
+-- first that is no pattern, one that was refused and counted, or nothing.
 abbrev pub IsCause : (List ℕ → Type 0) → List (List ℕ) → ℕ → ℕ → MatchFault → Type 0
 IsCause IsPattern texts before now (BadPattern text) = IsReached IsPattern texts text × (IsPattern text → ⊥)
 IsCause IsPattern texts before now (PatternRefused text) = IsReached IsPattern texts text × Rose before now

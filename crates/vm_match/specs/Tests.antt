@@ -1,4 +1,5 @@
--- What a test that was built for a filter keeps of it: the operator, and the text of its pattern if it has one.
+-- What a test that was built for a filter keeps of it: the operator, and the text of its pattern if
+-- it has one.
 use Rattle.std.specs.Prelude.{ℕ, List, [], ◌∷◌}
 use Rattle.vm_labels.specs.declared.selector.Filter.{Filter}
 use Rattle.vm_labels.specs.declared.selector.FilterOp.{FilterOp}

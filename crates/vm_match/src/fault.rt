@@ -6,7 +6,8 @@ use vm_base::Text;
 /// Why the patterns of a selector couldn't be built.
 #[derive(Debug, Drop)]
 pub enum MatchFault {
-    /// The text of a filter with `=~` or `!~` is no pattern. It is the first such text, list by list.
+    /// The text of a filter with `=~` or `!~` is no pattern. It is the first such text, list by
+    /// list.
     BadPattern { text: Text },
     /// The builder refused this text, and counted that. All before it are patterns.
     PatternRefused { text: Text },

@@ -37,8 +37,8 @@ impl<M: Pattern> Model for Matcher<M> {
 }
 
 impl<M: Pattern> Matcher<M> {
-    /// Builds the patterns of a selector, which are the texts of its filters with `=~` or `!~`, list by
-    /// list and in order, up to the first that fails.
+    /// Builds the patterns of a selector, which are the texts of its filters with `=~` or `!~`,
+    /// list by list and in order, up to the first that fails.
     pub fn build<P: Patterns<Built = M>>(
         alloc: Global,
         selector: &Selector,
@@ -57,8 +57,8 @@ impl<M: Pattern> Matcher<M> {
         Ok(Matcher { chosen, tests })
     }
 
-    /// Whether a label set meets all filters of some list. A label that it lacks has the empty value.
-    /// It takes one step. The only error is want of memory.
+    /// Whether a label set meets all filters of some list. A label that it lacks has the empty
+    /// value. It takes one step. The only error is that memory ran out.
     pub fn selects<L: Ledger>(
         &mut self,
         labels: &Labels,

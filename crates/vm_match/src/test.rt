@@ -10,7 +10,8 @@ use vm_base::List;
 use vm_labels::{Filter, Labels};
 use vm_outside::Pattern;
 
-/// How a filter is tested, with its pattern where it has one. Its name and its text stand in the filter.
+/// How a filter is tested, with its pattern where it has one. Its name and its text stand in the
+/// filter.
 #[derive(Drop)]
 pub(crate) enum Test<M> {
     Equal,

@@ -4,7 +4,7 @@ use Rattle.std.proofs.lemmas.List.{length-take}
 use Rattle.std.proofs.lemmas.Simd.{chunk-drop}
 use Rattle.std.proofs.Math.Seq.{take-append_seam}
 
--- a buffer that begins with n of the bytes from `at` on, and those behind them: all from `at` on
+-- a buffer that begins with n of the bytes from `at` on, and those after them: all from `at` on
 pub piece_then_rest : (bytes piece rest : List ℕ) (at n m : ℕ) → piece ≡ take m (drop at bytes)
     → m ≡ n → at + n ≤ length bytes
     → take n (piece ++ rest) ++ drop (at + n) bytes ≡ drop at bytes

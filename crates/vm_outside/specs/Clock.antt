@@ -12,7 +12,8 @@ without_first [] = []
 without_first (t ∷ []) = t ∷ []
 without_first (t ∷ u ∷ ts) = u ∷ ts
 
--- it answered the first of the answers told, and tells those after it now; told nothing, it tells nothing
+-- it answered the first of the answers told, and tells those after it now; told nothing, it tells
+-- nothing
 abbrev pub Answers : Option (List ℕ) → ℕ → Option (List ℕ) → Type 0
 Answers None t now = now ≡ None
 Answers (Some ts) t now = begins_with ts t × (now ≡ Some (without_first ts))

@@ -29,8 +29,8 @@ pub record Changes (file : ℕ) (step : List ℕ → List ℕ → Type 0) (old n
   pub own : step (old file) (new file)
   pub others : (other : ℕ) → other ≢ file → new other ≡ old other
 
--- What a crash may leave of this file is what it might have left, after the step; of another, what it
--- might have left.
+-- What a crash may leave of this file is what it might have left, after the step; of another, what
+-- it might have left.
 pub record Follows (file : ℕ) (step : List ℕ → List ℕ → Type 0)
     (old new : ℕ → List ℕ → Type 0) : Type 0 where
   pub own : (left : List ℕ) → new file left → (before : List ℕ) × old file before × step before left
@@ -44,8 +44,8 @@ NoMore old new = (file : ℕ) (left : List ℕ) → new file left → old file l
 abbrev pub Each : (ℕ → List ℕ → Type 0) → Image → Type 0
 Each may_leave image = (file : ℕ) → may_leave file (image file)
 
--- One call more: a crash since a moment may have left what it might have left before the call, or what
--- it may leave now.
+-- One call more: a crash since a moment may have left what it might have left before the call, or
+-- what it may leave now.
 pub record Elapses (before now : ℕ) (past since : ℕ → Image → Type 0)
     (may_leave : ℕ → List ℕ → Type 0) : Type 0 where
   pub later : before ≤ now
@@ -62,7 +62,8 @@ pub record Leaves {D : Type 0} (moment : D → ℕ) (left_since : D → ℕ → 
   pub each : (since : ℕ) (image : Image) → since ≤ moment old → left_since new since image
       → left_since old since image ⊎ P image
 
--- A call that writes nothing: what reads give stays, and a crash leaves what it might have left before.
+-- A call that writes nothing: what reads give stays, and a crash leaves what it might have left
+-- before.
 pub record Quiet {D : Type 0} (honest : D → Bool) (reads : D → Image)
     (may_leave : D → ℕ → List ℕ → Type 0) (moment : D → ℕ) (left_since : D → ℕ → Image → Type 0)
     (old new : D) : Type 0 where

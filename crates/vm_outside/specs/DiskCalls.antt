@@ -52,8 +52,8 @@ Notes call old new = calls_of new ≡ calls_of old ++ call ∷ []
 abbrev pub MayNote : DiskCall → MemDisk → MemDisk → Type 0
 MayNote call old new = Notes call old new ⊎ (calls_of new ≡ calls_of old)
 
--- A call was made, and done or not: it is written down as what it was, and one that wasn't done at all
--- for want of memory isn't. It failed if it was to fail.
+-- A call was made, and done or not: it is written down as what it was. One that wasn't done at all,
+-- because memory ran out, isn't written down. It failed if it was to fail.
 pub record IsMade (done failed : DiskCall) (is_done : Bool) (old new : MemDisk) : Type 0 where
   pub noted : is_done ≡ true → Notes done old new
   pub not_done : is_done ≡ false → MayNote failed old new
@@ -61,7 +61,8 @@ pub record IsMade (done failed : DiskCall) (is_done : Bool) (old new : MemDisk) 
   pub goes_on : GoesOn old.failing new.failing
   pub first : first_of new ≡ first_of old
 
--- What the files hold and held at first stays, and so do the counts of faults and the calls that are to fail.
+-- What the files hold and held at first stays, and so do the counts of faults and the calls that
+-- are to fail.
 pub record Keeps (old new : MemDisk) : Type 0 where
   pub first : first_of new ≡ first_of old
   pub files : files_of new ≡ files_of old

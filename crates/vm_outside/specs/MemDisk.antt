@@ -1,5 +1,5 @@
--- What reads give of a disk in memory, and what a crash may leave of it: both follow from what its files
--- held at first and from the record of its calls, which is taken from the last one back.
+-- What reads give of a disk in memory, and what a crash may leave of it: both follow from what its
+-- files held at first and from the record of its calls, which is taken from the last one back.
 use Rattle.std.specs.Prelude.{◌≤◌, ℕ, ◌+◌, ◌^◌, Bool, true, false, nat_le, nat_eq, if◌then◌else◌, List, [], ◌∷◌, ◌++◌, length, take, drop, ◌⊎◌}
 use Rattle.vm_outside.specs.Disk.{Image, Each}
 use Rattle.vm_outside.specs.Unsynced.{IsLeft, all_synced, after_write, after_drop}

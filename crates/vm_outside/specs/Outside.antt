@@ -2,19 +2,19 @@
 use Rattle.std.specs.Prelude.{◌≡◌, ℕ, ◌+◌, ◌-◌, ◌^◌, ◌≤◌, min, max, List, ◌++◌, Option, Some, None, ⊤}
 use Rattle.std.specs.Option.{option_map}
 
--- where a count stands that can't rise further
+-- the greatest count, which can't rise further
 abbrev pub most : ℕ
 most = 2 ^ 64 - 1
 
--- a count after one more, which stands where it is at the greatest
+-- a count after one more, which stays where it is at the greatest
 abbrev pub raised : ℕ → ℕ
 raised count = max count (min (count + 1) most)
 
--- the count rose by n at least, or stands where it can't rise further
+-- the count rose by n at least, or is where it can't rise further
 abbrev pub RoseBy : ℕ → ℕ → ℕ → Type 0
 RoseBy n before now = min (before + n) most ≤ now
 
--- the count rose, or stands where it can't rise further
+-- the count rose, or is where it can't rise further
 abbrev pub Rose : ℕ → ℕ → Type 0
 Rose before now = RoseBy 1 before now
 

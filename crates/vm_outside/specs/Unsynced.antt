@@ -7,8 +7,8 @@ abbrev pub is_in : List (ℕ × ℕ) → ℕ → Bool
 is_in [] i = false
 is_in (range ∷ ranges) i = nat_le range.0 i && nat_lt i (range.0 + range.1) || is_in ranges i
 
--- What a crash may leave of it: any bytes in the ranges and the synced bytes elsewhere, in any length from
--- the synced one to the greatest.
+-- What a crash may leave of it: any bytes in the ranges and the synced bytes elsewhere, in any
+-- length from the synced one to the greatest.
 pub record IsLeft (file : Unsynced) (left : List ℕ) : Type 0 where
   pub no_shorter : length file.synced ≤ length left
   pub no_longer : length left ≤ file.longest

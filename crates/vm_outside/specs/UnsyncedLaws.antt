@@ -58,6 +58,7 @@ chosen_covered : (b : Bool) (file other : Unsynced) → IsCovered file → IsCov
 chosen_covered true file other this that = this
 chosen_covered false file other this that = that
 
+-- so is each file of a disk in memory, after any calls
 pub covered : (first : Image) (past : List DiskCall) (file : ℕ) → IsCovered (unsynced first past file)
 covered first [] file = all_synced_covered (first file)
 covered first (Len f ∷ past) file = covered first past file
@@ -82,6 +83,7 @@ synced_within file i is less out = go (nat_lt i (length file.synced)) refl
     go true less = grind (arith, nat_tests, less)
     go false no_less = absurd (cc (out, is.covers i (grind (arith, nat_tests, no_less)) less))
 
+-- after a sync a crash may leave the synced bytes
 pub synced_left : (bytes : List ℕ) → IsLeft (all_synced bytes) bytes
 synced_left bytes = record { no_shorter = omega arith; no_longer = omega arith; elsewhere = λ i less out. refl }
 
@@ -91,6 +93,7 @@ only_synced bytes left is =
     ext_get_or 0 left bytes (omega (arith, is.no_shorter, is.no_longer))
     (λ i less. byte_same left bytes i less (is.elsewhere i less refl))
 
+-- what a crash may tear may also stay as it was
 pub torn_itself : (at n : ℕ) (left : List ℕ) → Torn at n left left
 torn_itself at n left = record { before = refl; after = refl; no_shorter = omega arith; no_longer = omega arith }
 
@@ -113,12 +116,12 @@ module _ (at n : ℕ) (file : Unsynced) (left : List ℕ) (is : IsCovered file) 
   cut_byte : (i : ℕ) → i < length cut → get_or cut i 0 ≡ get_or left i 0
   cut_byte i less = get_or-take file.longest left i 0 (omega (arith, cut_length, less))
 
-  -- outside the ranges and the new one stand the synced bytes
+  -- outside the ranges and the new one are the synced bytes
   elsewhere : (i : ℕ) → i < length left → i < length file.synced → is_in ((at, n) ∷ file.ranges) i ≡ false
       → get_or left i 0 ≡ get_or file.synced i 0
   elsewhere i less within out = byte_same left file.synced i less (image.elsewhere i less out)
 
-  -- the range lies behind all that is left: nothing was torn
+  -- the range lies after all that is left: nothing was torn
   short : length cut < at → (before : List ℕ) × IsLeft file before × Torn at n before left
   short less = (
     left,
@@ -223,7 +226,7 @@ was_torn at n file left is image = go (nat_le at file.longest) refl image
     go true order image = was_torn_within at n file left is (grind (arith, nat_tests, order)) image
     go false past image = (left, image, torn_itself at n left)
 
--- the synced bytes and noughts, as long as the file might have been
+-- the synced bytes and zeros, as long as the file might have been
 abbrev padded : Unsynced → List ℕ
 padded file = file.synced ++ replicate (file.longest - length file.synced) 0
 
@@ -245,7 +248,8 @@ padded_left file is = record {
       (get_or_append_left file.synced (replicate (file.longest - length file.synced) 0) 0 i within);
 }
 
--- what a crash may leave of a dropped file is no longer than something that it might have left before
+-- what a crash may leave of a dropped file is no longer than something that it might have left
+-- before
 pub was_dropped : (file : Unsynced) (left : List ℕ) → IsCovered file → IsLeft (after_drop file) left
     → (before : List ℕ) × IsLeft file before × Dropped before left
 was_dropped file left is image =

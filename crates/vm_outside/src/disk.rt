@@ -7,10 +7,10 @@ use crate::Failed;
 
 /// Files named by numbers, each a run of bytes. A file that was never written is empty.
 ///
-/// A disk that is `honest` tells what reads give and what a crash may leave, and keeps what it tells: it
-/// is what an operating system's files are behind `fsync`, at their worst. Until a file is synced, a
-/// crash may leave any bytes where it was written since, and may or may not have made it longer,
-/// whatever it leaves of other files. The clauses on causes hold for every disk.
+/// A disk that is `honest` tells what reads give and what a crash may leave, and keeps what it
+/// tells: it is what an operating system's files with `fsync` are, at their worst. Until a file is
+/// synced, a crash may leave any bytes where it was written since, and may or may not have made it
+/// longer, whatever it leaves of other files. The clauses on causes hold for every disk.
 ///
 /// `docs/crash-model.md` says what this asks of a real disk, and what it doesn't.
 pub trait Disk {
@@ -77,8 +77,9 @@ pub trait Disk {
         ensures counted { read_faults self.old ≤ read_faults self.new }
         ensures cause { OnErr result (Rose (read_faults self.old) (read_faults self.new)) };
 
-    /// Puts all of `bytes` into the file from `at` on, over what stands there and past the end. Until a
-    /// `sync` of the file a crash may leave any bytes in that range, also where this call fails.
+    /// Puts all of `bytes` into the file from `at` on, over what stands there and past the end.
+    /// Until a `sync` of the file a crash may leave any bytes in that range, also where this call
+    /// fails.
     fn write(&mut self, file: u64, at: u64, bytes: &[u8]) -> Result<(), Failed>
         requires fits { at + length bytes.now ≤ 2 ^ 62 }
         requires no_gap { IsTrue (honest self.old) → at ≤ length (reads self.old file) }
@@ -115,8 +116,8 @@ pub trait Disk {
         ensures counted { write_faults self.old ≤ write_faults self.new }
         ensures cause { OnErr result (Rose (write_faults self.old) (write_faults self.new)) };
 
-    /// Makes the file empty at once. Until its next `sync` a crash may leave it with any bytes, no longer
-    /// than it might have left it before.
+    /// Makes the file empty at once. Until its next `sync` a crash may leave it with any bytes, no
+    /// longer than it might have left it before.
     fn drop_file(&mut self, file: u64) -> Result<(), Failed>
         // What `Ok` holds, and what an error leaves.
         ensures dropped { IsTrue (honest self.old) → OnOk result

@@ -4,11 +4,12 @@
 //! nothing, as an adapter of the operating system does. It counts its faults in either case, and a
 //! call answers `Failed` only where its count rose, so that no code above can make a fault up.
 //!
-//! Read `Source` first, then `Sink` and `write_all`, then `Disk` with `write_and_sync` and `read_all`,
-//! then the others. The words of the clauses stand in `specs/Outside.antt`, `specs/Clock.antt` and
-//! `specs/Disk.antt`, and laws about them in `proofs/Streams.antt`. What a crash may leave of a
-//! `MemDisk` is `specs/Unsynced.antt`, after the calls of `specs/MemDisk.antt`. The repository's
-//! `docs/outside.md` says how to write an adapter, and `docs/crash-model.md` what a disk is to keep.
+//! Read `Source` first, then `Sink` and `write_all`, then `Disk` with `write_and_sync` and
+//! `read_all`, then the others. The words of the clauses stand in `specs/Outside.antt`,
+//! `specs/Clock.antt` and `specs/Disk.antt`, and laws about them in `proofs/Streams.antt`. What a
+//! crash may leave of a `MemDisk` is `specs/Unsynced.antt`, after the calls of
+//! `specs/MemDisk.antt`. The repository's `docs/outside.md` says how to write an adapter, and
+//! `docs/crash-model.md` what a disk is to keep.
 //!
 //! It stands on `vm_base` for `List` and `Text`, the groups of a pattern.
 #![tactic(auto)]

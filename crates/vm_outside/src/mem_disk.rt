@@ -14,12 +14,12 @@ use crate::{Disk, DiskCall, Failed, Unsynced};
 use std::alloc::{AllocError, Global};
 use vm_base::List;
 
-/// A disk in memory. It is honest, and a crash may leave of it all that a crash may leave of the files of an
-/// operating system at their worst: until a file is synced, any bytes where it was written since, and any
-/// length from the synced one to the greatest since.
+/// A disk in memory. It is honest, and a crash may leave of it all that a crash may leave of the
+/// files of an operating system at their worst: until a file is synced, any bytes where it was
+/// written since, and any length from the synced one to the greatest since.
 ///
-/// It writes down each call. A test can make it fail at chosen calls. A call whose memory can't grow
-/// answers `Failed` too and counts it, whatever was chosen, and changes nothing else.
+/// It writes down each call. A test can make it fail at chosen calls. A call whose memory can't
+/// grow answers `Failed` too and counts it, whatever was chosen, and changes nothing else.
 #[derive(Drop)]
 pub struct MemDisk {
     alloc: Global,

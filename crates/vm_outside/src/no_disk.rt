@@ -5,8 +5,8 @@ ghost use Rattle.vm_outside.specs.NoDisk.{never};
 
 use crate::{Disk, Failed};
 
-/// A disk that isn't there: each call fails, and is counted. It is what a program hands in that
-/// keeps no files.
+/// A disk that isn't there: each call fails, and is counted. A program that keeps no files hands
+/// it in.
 #[derive(Debug, Drop)]
 pub struct NoDisk {
     /// How many calls of `len` and `read` were made, up to 2^64 - 1.

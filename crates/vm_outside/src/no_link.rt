@@ -3,11 +3,11 @@ ghost use Rattle.vm_outside.specs.Outside.{raised};
 
 use crate::{Failed, Link};
 
-/// A link where nobody ever connects: `next` answers false. It is what a program hands in that
-/// serves no connections.
+/// A link where nobody ever connects: `next` answers false. A program that serves no connections
+/// hands it in.
 ///
-/// As no connection is present, `read` and `write` have nothing to work on. Code that takes a link
-/// can't call them; called on this type itself they fail, and count it.
+/// No connection is present, so code that takes any link can't call `read` and `write`. Called on
+/// this type itself, they fail and count it.
 #[derive(Debug, Drop)]
 pub struct NoLink {
     /// How many calls of `read` were made, up to 2^64 - 1.

@@ -5,8 +5,8 @@ use crate::{Pattern, PatternFault, Patterns};
 use std::alloc::AllocError;
 use vm_base::{List, Text};
 
-/// A builder that refuses each text, and counts that. It is what a program hands in that matches
-/// no patterns.
+/// A builder that refuses each text, and counts that. A program that matches no patterns hands it
+/// in.
 #[derive(Debug, Drop)]
 pub struct NoPatterns {
     /// How many texts were refused, up to 2^64 - 1.

@@ -28,7 +28,8 @@ pub trait Patterns {
             → Rose (refusals self.old) (refusals self.new) };
 }
 
-/// A pattern, which is held against whole values. Its type tells what the pattern of a text matches.
+/// A pattern, which is held against whole values. Its type tells what the pattern of a text
+/// matches.
 pub trait Pattern: Drop {
     /// The text that it was built from.
     ghost text: { Self → ListOf ℕ };
@@ -36,16 +37,16 @@ pub trait Pattern: Drop {
     /// Whether the pattern of a text matches the whole of a value.
     ghost matches: { ListOf ℕ → ListOf ℕ → Bool };
 
-    /// The texts of groups 0 to 9 of that match, empty for a group that took no part, or nothing where
-    /// the pattern of a text doesn't match.
+    /// The texts of groups 0 to 9 of that match, empty for a group that took no part, or nothing
+    /// where the pattern of a text doesn't match.
     ghost groups_of: { ListOf ℕ → ListOf ℕ → OptionOf (ListOf (ListOf ℕ)) };
 
-    /// Whether it matches the whole value. The only error is want of memory.
+    /// Whether it matches the whole value. The only error is that memory ran out.
     fn whole(&mut self, value: &str) -> Result<bool, AllocError>
         ensures value { IfOk result (λ found. found ≡ matches (text self.old) value.now) }
         ensures kept { text self.new ≡ text self.old };
 
-    /// The groups of its match with the whole value. The only error is want of memory.
+    /// The groups of its match with the whole value. The only error is that memory ran out.
     fn groups(&mut self, value: &str) -> Result<Option<List<Text>>, AllocError>
         ensures value { IfOk result (λ groups. groups ≡ groups_of (text self.old) value.now) }
         ensures kept { text self.new ≡ text self.old };

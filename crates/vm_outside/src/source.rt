@@ -13,7 +13,7 @@ pub trait Source {
     ghost faults: { Self → ℕ };
 
     /// Puts bytes at the front of `into` and answers how many, at most the length of `into`. 0 is
-    /// the end of the input, and comes only there. What `into` holds behind these bytes is open.
+    /// the end of the input, and comes only there. What `into` holds after these bytes is open.
     ///
     /// After `Failed`, which is counted, no byte is lost: a later call may go on.
     fn read(&mut self, into: &mut [u8]) -> Result<usize, Failed>

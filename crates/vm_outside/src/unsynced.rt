@@ -10,8 +10,8 @@ use crate::mem_files::write_at;
 use std::alloc::{AllocError, Global};
 use vm_base::List;
 
-/// A file between two syncs, as a crash may leave it: with any bytes where it was written since and with
-/// the synced ones elsewhere, in any length from the synced one to its greatest since.
+/// A file between two syncs, as a crash may leave it: with any bytes where it was written since and
+/// with the synced ones elsewhere, in any length from the synced one to its greatest since.
 #[derive(Debug, Drop)]
 pub struct Unsynced {
     /// The bytes of the last sync.
@@ -49,7 +49,8 @@ impl Unsynced {
         })
     }
 
-    /// The file one call later, which held these bytes before the call and holds the others after it.
+    /// The file one call later, which held these bytes before the call and holds the others after
+    /// it.
     #[tactic(auto, using(crate::proofs::RecordLaws::other_unsynced, crate::proofs::RecordLaws::other_replayed))]
     pub(crate) fn after(
         self,

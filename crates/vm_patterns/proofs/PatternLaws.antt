@@ -43,7 +43,7 @@ too_deep : (o : Option (Nested Re × Names)) (n : ℕ) → IsSomeAnd o (λ (re, 
 too_deep None n short deep = short
 too_deep (Some (re, found)) n short deep = omega (arith, short, deep)
 
--- what is refused, but for want of memory, is none
+-- what is refused is none, unless memory ran out
 pub is_no_expression : (text : List ℕ) (kind : ErrorKind) → Refuses default_config text kind → kind ≢ OutOfMemory →
     IsExpression text → ⊥
 unfolding Refuses

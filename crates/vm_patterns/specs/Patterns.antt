@@ -1,4 +1,5 @@
--- What patterns mean: regular expressions in the syntax of Rust's `regex`, held against whole values.
+-- What patterns mean: regular expressions in the syntax of Rust's `regex`, held against whole
+-- values.
 use Rattle.std.specs.Prelude.{ℕ, ◌≤◌, Bool, List, [], ◌∷◌, ◌++◌, map, Option, Some, None, is_some, IsSomeAnd, option_map, slice_range, codes}
 use Rattle.std.specs.Str.{chars}
 use Rattle.regex.specs.Patterns.{Re, Match, find_str, span, default_config}
@@ -18,6 +19,7 @@ anchored text = codes "\\A(?:" ++ (text ++ codes ")\\z")
 abbrev pub IsPattern : List ℕ → Type 0
 IsPattern text = IsExpression text × IsExpression (anchored text)
 
+-- what an expression finds in a value, nothing where there is none
 abbrev pub found_by : Option (Nested Re × Names) → List ℕ → Option Match
 found_by None value = None
 found_by (Some (re, names)) value = find_str re.value value 0

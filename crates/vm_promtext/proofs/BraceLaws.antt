@@ -1,4 +1,4 @@
--- Braces turn by turn.
+-- Braces step by step.
 use Rattle.std.proofs.Common.{◌≡◌, ℕ, zero, suc, ◌-◌, ◌<◌, true, false, List, length, Result, Ok, Err, refl, ◌∙◌, arith}
 use Rattle.std.specs.Prelude.{if◌then◌else◌}
 use Rattle.vm_labels.specs.declared.pair.Pair.{Pair}
@@ -35,7 +35,7 @@ pub turn_goes_on : (fuel : ℕ) (before : List Pair) (text : List ℕ) (turn : T
     → braces_reading fuel before text ≡ braces_reading (fuel - 1) turn.pairs turn.rest
 turn_goes_on fuel before text turn some is closed = turn_some fuel before text some ∙ rw (is, closed) refl
 
--- a fault within a turn is the fault of all
+-- a fault within a step is the fault of all
 pub turn_fails : (stop : Stop) (start : Result (List Pair × List ℕ) ℕ) (fuel : ℕ) (before : List Pair) (text : List ℕ) → 0 < fuel → start ≡ braces_reading fuel before text
     → Fails stop (turn_reading before text) → Fails stop start
 turn_fails Memory start fuel before text some is fails = tt

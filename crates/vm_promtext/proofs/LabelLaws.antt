@@ -1,4 +1,4 @@
--- Labels, read behind a name.
+-- Labels, read after a name.
 use Rattle.std.proofs.Common.{◌≡◌, ◌⊎◌, inl, inr, ℕ, zero, suc, ◌<◌, ◌≤◌, Bool, true, false, cond, List, [], ◌∷◌, ◌++◌, length, drop, Ok, Err, refl, ap, sym, subst, ◌∙◌, arith, true≢false, append_assoc, length-append}
 use Rattle.std.specs.Prelude.{◌==◌, slice_index, nat_lt, if◌then◌else◌}
 use Rattle.std.proofs.Common.{le-ltb, lt-ltb}
@@ -80,7 +80,7 @@ module _ (Able : Type 0) (L : List Pair → List ℕ → Type 0) (never : (pairs
   more_never before byte more blank (inl m) = marked_never is_blank 125 (Then before) refl byte more blank m
   more_never before byte more blank (inr l) = labeled_never before byte more blank l
 
-  -- what follows a turn
+  -- what follows a step
   abbrev pub AfterTurn : Turn → List ℕ → Type 0
   AfterTurn turn text = MatchBool turn.closed (Then turn.pairs text) (Inside turn.pairs text)
 
@@ -173,7 +173,7 @@ module _ (Able : Type 0) (L : List Pair → List ℕ → Type 0) (never : (pairs
           (pair_follows Able (BehindPair before) (behind_never before) (λ can. behind_goes can before) rest)
           (λ pair _. behind_follows before (pair_of pair.name (unescaped pair.raw)) pair.rest))
 
-  -- ---- turns
+  -- ---- steps
 
   pair_shorter : (text : List ℕ) (before : List Pair) (pair : PairRead) → pair_reading text ≡ Ok pair → length pair.rest ≤ length text
   pair_shorter text before pair is =
@@ -220,13 +220,13 @@ module _ (Able : Type 0) (L : List Pair → List ℕ → Type 0) (never : (pairs
       follows_then Able (Inside before) AfterTurn turn_rest Pairs pairs_rest text (turn_reading before text) _ (turn_follows before text)
       (λ turn is. after_turn fuel (braces_follows fuel) turn.closed turn.pairs turn.rest (omega (arith, turn_shorter before text turn is)))
 
-  -- ---- labels behind a name
+  -- ---- labels after a name
 
   module _ (brace : (pairs : List Pair) → NeverBegins (λ byte. byte == 123) (L pairs)) where
     inside_spaced : (before : List Pair) → NeverBegins is_blank (Marked 123 (Inside before))
     inside_spaced before = marked_never is_blank 123 (Inside before) refl
 
-    -- behind blanks stands the opening brace, or what follows the pairs
+    -- after blanks stands the opening brace, or what follows the pairs
     with_cases : (before : List Pair) (blanks more : List ℕ) → AreBlank blanks → EndsAt is_blank more → WithLabels L before (blanks ++ more)
         → L before more ⊎ Marked 123 (Inside before) more
     with_cases before blanks more are ends (inl p) = inl (spaced_behind (L before) blanks more (never before) are ends (parted_spaced (L before) (blanks ++ more) p))
@@ -268,7 +268,7 @@ module _ (Able : Type 0) (L : List Pair → List ℕ → Type 0) (never : (pairs
     parted_not [] before p ends = cc (p.parts)
     parted_not (byte ∷ text) before p ends = let first : byte ≡ p.blank = cc (p.parts) in true≢false (sym p.is ∙ ap is_blank (sym first) ∙ ends)
 
-    -- behind no blank no label begins but with a brace
+    -- where no blank was read, labels can only begin with a brace
     no_label : Able → (before : List Pair) (text : List ℕ) → EndsAt is_blank text → (slice_index text 0 == 123) ≡ false → Stops (WithLabels L before) text (length text)
     no_label can before text ends other =
         let g = inside_goes can before in

@@ -17,7 +17,7 @@ pub record Stops (L : List ℕ → Type 0) (text : List ℕ) (left : ℕ) : Type
   pub within : left ≤ length text
   pub first : FirstWrong L text (length text - left)
 
--- Behind the front of the text, what stands there decides by L whether the whole is in G.
+-- After the front of the text, what stands there decides by L whether the whole is in G.
 pub record Leads (G L : List ℕ → Type 0) (text rest : List ℕ) : Type 0 where
   pub front : List ℕ
   pub parts : text ≡ front ++ rest
@@ -102,8 +102,8 @@ stops_here L (byte ∷ rest) more is wrong short =
       });
     }
 
--- What a step that reads a text says: where it leads, or where the text leaves the grammar. The second
--- is said only where each front can go on, as `Able` says.
+-- What a step that reads a text says: where it leads, or where the text leaves the grammar. The
+-- second is said only where each front can go on, as `Able` says.
 abbrev pub Follows : {X : Type 0} → Type 0 → (List ℕ → Type 0) → (X → List ℕ → Type 0) → (X → List ℕ) → List ℕ → Result X ℕ → Type 0
 Follows Able G L rest text (Ok x) = Leads G (L x) text (rest x)
 Follows Able G L rest text (Err left) = Able → Stops G text left

@@ -42,7 +42,7 @@ ends_passing p (byte ∷ more) = go (p byte) refl (ends_passing p more)
     go true passes rest = let next : 1 + prefix_len p more ≡ suc (prefix_len p more) = omega arith in rw next rest
     go false passes rest = passes
 
--- bytes that pass and what stands behind them are found in one way
+-- bytes that pass and what stands after them are found in one way
 pub one_span : (p : ℕ → Bool) (a b x y : List ℕ) → list_all p a ≡ true → list_all p b ≡ true → EndsAt p x → EndsAt p y → a ++ x ≡ b ++ y → (a ≡ b) × (x ≡ y)
 one_span p [] [] x y are_a are_b ends_x ends_y is = (refl, is)
 one_span p [] (b ∷ bs) [] y are_a are_b ends_x ends_y is = cc
@@ -219,7 +219,7 @@ named_nothing L n = named_none n.name n.rest n.parts n.is
 
 -- ---- blanks that were passed
 
--- the blanks at the front of a text, and what stands behind them
+-- the blanks at the front of a text, and what stands after them
 pub record Passed (text : List ℕ) : Type 0 where
   pub blanks : List ℕ
   pub are : AreBlank blanks
@@ -234,7 +234,7 @@ passed (byte ∷ text) = go (is_blank byte) refl (passed text)
     go true blank p = record { blanks = byte ∷ p.blanks; are = (blank, p.are); parts = rw blank (ap (λ t. byte ∷ t) p.parts); ends = rw blank p.ends }
     go false blank p = record { blanks = []; are = tt; parts = rw blank refl; ends = rw blank blank }
 
--- behind blanks, and where no further one follows, a text of Spaced L is one of L
+-- after blanks, and where no further one follows, a text of Spaced L is one of L
 pub spaced_behind : (L : List ℕ → Type 0) (blanks more : List ℕ) → NeverBegins is_blank L → AreBlank blanks → EndsAt is_blank more → Spaced L (blanks ++ more) → L more
 spaced_behind L [] [] never are ends s = spaced_none L s
 spaced_behind L [] (byte ∷ more) never are ends s = elim (spaced_cases L byte more s) [ inl blank ↦ absurd (true≢false (sym blank.0 ∙ ends)) | inr is ↦ is ]

@@ -153,7 +153,7 @@ module _ (P : Written → Type 0) where
         (follows_ok Able (Valued (Behind labels.0)) (OfValue Able (Behind labels.0) (behind_blank labels.0) (λ can. behind_goes can labels.0) labels.1) (value_rest Able (Behind labels.0) (behind_blank labels.0) (λ can. behind_goes can labels.0) labels.1)
         labels.1 (value_reading labels.1) value (value_follows Able (Behind labels.0) (behind_blank labels.0) (λ can. behind_goes can labels.0) labels.1) is)
 
-  -- a row that is read is one of which P holds just where it holds of what was read
+  -- a row that is read is one of which P holds exactly where it holds of what was read
   pub record RowRead (text : List ℕ) (read : Result SampleText NumFault × Written) : Type 0 where
     pub number : read.0 ≡ sample_reading read.1.value
     pub into : P read.1 → Named OfName text

@@ -1,4 +1,4 @@
--- The time of a row, read behind its value.
+-- The time of a row, read after its value.
 use Rattle.std.proofs.Common.{◌≡◌, ◌≢◌, ◌⊎◌, inl, inr, ℕ, ◌+◌, Bool, true, false, cond, List, [], ◌∷◌, ◌++◌, length, take, drop, Result, Ok, Err, refl, ap, sym, subst, ◌∙◌, arith, true≢false, append-nil, length-append}
 use Rattle.std.specs.Prelude.{◌==◌, not}
 use Rattle.std.specs.Char.{is_ascii_digit}
@@ -66,7 +66,7 @@ digit_count byte text digit none =
     let len : prefix_len is_ascii_digit (byte ∷ text) ≡ 1 + prefix_len is_ascii_digit text = rw digit refl in
     absurd (omega arith)
 
--- digits with something behind them
+-- digits with something after them
 counted_is : (M : List ℕ → List ℕ → Type 0) (digits rest more : List ℕ) → list_all is_ascii_digit digits ≡ true → EndsAt is_ascii_digit more
     → ((d : List ℕ) (r : List ℕ) → M d r → AreBlank r) → (c : Counted M (digits ++ more)) → (c.digits ≡ digits) × (c.rest ≡ more)
 counted_is M digits rest more are ends blank c =
@@ -84,7 +84,7 @@ counted_never M byte more blank c = digit_not_blank byte (digit_first byte more 
 
 -- ---- where a time is read
 
--- the blanks at the front, of which there is one, and what stands behind them
+-- the blanks at the front, of which there is one, and what stands after them
 record Gap (text : List ℕ) : Type 0 where
   blank : ℕ
   blanks : List ℕ
@@ -169,7 +169,7 @@ module _ (K : List ℕ → ℕ → Type 0) where
 
 -- ---- where none is read
 
--- the line's end behind a value, whatever its time
+-- the line's end after a value, whatever its time
 abbrev Blanks : List ℕ → List ℕ → Type 0
 Blanks digits rest = AreBlank rest
 
@@ -357,7 +357,7 @@ time_reads K text read solid is = first (length (behind_blanks text) == 0) refl 
         })
     first false test is = second (prefix_len is_ascii_digit (behind_blanks text) == 0) (λ none. true≢false (sym (ap (λ n. n == 0) none) ∙ test)) refl is
 
--- what stands behind a value never begins with another byte than a blank
+-- what stands after a value never begins with another byte than a blank
 pub timed_blank : (K : List ℕ → ℕ → Type 0) (byte : ℕ) (more : List ℕ) → is_solid byte ≡ true → Timed K (byte ∷ more) → ⊥
 timed_blank K byte more solid (inl t) = true≢false (sym solid ∙ ap not t.0.0)
 timed_blank K byte more solid (inr p) = let same : byte ≡ p.blank = cc (p.parts) in true≢false (sym solid ∙ ap not (ap is_blank same ∙ p.is))

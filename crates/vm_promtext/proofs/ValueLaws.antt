@@ -1,4 +1,4 @@
--- A label's value in quotes, read from behind its opening quote.
+-- A label's value in quotes, read from after its opening quote.
 use Rattle.std.proofs.Common.{◌≡◌, ◌⊎◌, inl, inr, ⊎_elim, ℕ, suc, ◌+◌, ◌-◌, ◌<◌, ◌≤◌, Bool, true, false, cond, List, [], ◌∷◌, ◌++◌, length, take, drop, Option, Some, None, Ok, Err, refl, ap, sym, subst, ◌∙◌, arith, true≢false, append_assoc, append-nil}
 use Rattle.std.specs.Prelude.{◌==◌, ◌&&◌, not, IsUtf8}
 use Rattle.std.specs.Option.{option_map}
@@ -46,7 +46,7 @@ same_parts (a ∷ as') (b ∷ bs) x y is len =
 
 -- ---- quotes and escapes
 
--- the first quote that ends a value stands behind it
+-- the first quote that ends a value stands after it
 bare_place : (escaped : Bool) (raw rest : List ℕ) → is_bare escaped raw ≡ true → quote_place escaped (raw ++ 34 ∷ rest) ≡ Some (length raw)
 bare_place true [] rest bare = cc
 bare_place false [] rest bare = refl

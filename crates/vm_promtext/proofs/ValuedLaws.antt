@@ -1,4 +1,4 @@
--- The value of a row, read behind its labels.
+-- The value of a row, read after its labels.
 use Rattle.std.proofs.Common.{◌≡◌, inl, inr, ⊎_elim, ℕ, zero, suc, ◌+◌, ◌-◌, ◌<◌, ◌≤◌, Bool, true, false, List, [], ◌∷◌, ◌++◌, length, take, drop, Result, Ok, Err, refl, ap, sym, subst, ◌∙◌, arith, true≢false, append_assoc, length-append}
 use Rattle.std.specs.Prelude.{◌==◌, not, codes}
 use Rattle.std.proofs.Math.Seq.{take-append-add}
@@ -165,7 +165,7 @@ module _ (Able : Type 0) (L : List ℕ → List ℕ → Type 0) (blank : (value 
           let parts = and_parts (is_solid b) (list_all is_solid value) are in
           rw (parts.0, all_front n value parts.1) refl
 
-      -- the whole value goes on with the blank behind it
+      -- the whole value goes on with the blank after it
       at_end : (text value behind : List ℕ) (at : ℕ) → value ++ behind ≡ text → list_all is_solid value ≡ true → EndsAt is_solid behind → at ≡ length value → at < length text
           → FirstWrong IsSampleText value at → Begins (Valued L) (take (suc at) text) → ⊥
       at_end text value [] at whole solid ends is inside first begins = absurd (omega (arith, ap length whole, length-append value []))

@@ -14,6 +14,7 @@ use Rattle.vm_promtext.specs.Quoted.{IsBare, unescaped}
 abbrev pub is_blank : ℕ → Bool
 is_blank byte = byte == 32 || byte == 9
 
+-- blanks alone
 abbrev pub AreBlank : List ℕ → Type 0
 AreBlank = AllByRecursion (λ byte. is_blank byte ≡ true)
 
@@ -47,8 +48,8 @@ pub record Named (L : List ℕ → List ℕ → Type 0) (text : List ℕ) : Type
   pub is : is_name name ≡ true
   pub then : L name rest
 
--- a label's value in quotes, which is UTF-8 and has no quote but in an escape; L gets what it stands
--- for
+-- a label's value in quotes, which is UTF-8 and has no quote but in an escape; L gets what it
+-- stands for
 pub record Quoted (L : List ℕ → List ℕ → Type 0) (text : List ℕ) : Type 0 where
   pub raw : List ℕ
   pub rest : List ℕ
@@ -64,7 +65,7 @@ Labeled L =
     Spaced (L (record { name = name; value = value })))))))
 
 -- What follows an opening brace and these pairs: at most so many more, parted by commas, perhaps a
--- comma behind the last one, and the closing brace.
+-- comma after the last one, and the closing brace.
 abbrev pub Closed : (List Pair → List ℕ → Type 0) → ℕ → List Pair → List ℕ → Type 0
 Closed L zero before = Spaced (Marked 125 (L before))
 Closed L (suc more) before = Spaced (λ text.
@@ -73,7 +74,7 @@ Closed L (suc more) before = Spaced (λ text.
     Marked 125 (L (before ++ pair ∷ [])) rest
     ⊎ Marked 44 (Closed L more (before ++ pair ∷ [])) rest) text)
 
--- behind a name and these pairs: blanks, or more pairs in braces with any blanks around the braces
+-- after a name and these pairs: blanks, or more pairs in braces with any blanks around the braces
 abbrev pub WithLabels : (List Pair → List ℕ → Type 0) → List Pair → List ℕ → Type 0
 WithLabels L before text =
     Parted (L before) text
@@ -96,7 +97,7 @@ pub record Counted (L : List ℕ → List ℕ → Type 0) (text : List ℕ) : Ty
   pub are : list_all is_ascii_digit digits ≡ true
   pub then : L digits rest
 
--- The line's end behind its value: blanks, or blanks, the digits of a time and blanks. L gets the
+-- The line's end after its value: blanks, or blanks, the digits of a time and blanks. L gets the
 -- digits, none where no time is written, and the number of bytes from the first of them on.
 abbrev pub Timed : (List ℕ → ℕ → Type 0) → List ℕ → Type 0
 Timed L text =
@@ -110,10 +111,12 @@ pub record Written : Type 0 where
   -- the value's text, and how many bytes the line has from its first byte on
   pub value : List ℕ
   pub value_left : ℕ
-  -- the time's digits, none where no time is written, and how many bytes the line has from the first on
+  -- the time's digits, none where no time is written, and how many bytes the line has from the
+  -- first on
   pub digits : List ℕ
   pub time_left : ℕ
 
+-- the metric's name as a label
 abbrev pub name_pair : List ℕ → Pair
 name_pair name = record { name = codes "__name__"; value = name }
 
@@ -136,5 +139,6 @@ Writes line written = RowText (λ other. other ≡ written) line
 abbrev pub SaysNothing : List ℕ → Type 0
 SaysNothing line = AreBlank line ⊎ Spaced (Marked 35 (λ _. ⊤)) line
 
+-- the text is a line: it says nothing, or writes a row
 abbrev pub IsLine : List ℕ → Type 0
 IsLine line = SaysNothing line ⊎ RowText (λ _. ⊤) line

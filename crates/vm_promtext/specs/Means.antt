@@ -8,8 +8,7 @@ use Rattle.vm_promtext.specs.declared.line.Line.{Line}
 use Rattle.vm_promtext.specs.declared.line.Line.TheVariants.{Nothing, Row, NoNumber, Skipped}
 use Rattle.vm_promtext.specs.Reading.{reading}
 
--- what a line of at most 4,194,304 bytes means that is read at the time `now`, and that a longer one
--- is skipped
+-- What a line means that is read at the time `now`. A line of more than 4,194,304 bytes is skipped.
 pub data IsReading (now : ℕ) (line : List ℕ) : Line → Type 0 where
   too_long : 4194304 < length line → IsReading now line (Skipped 4194304)
   nothing : length line ≤ 4194304 → SaysNothing line → IsReading now line Nothing
@@ -18,6 +17,7 @@ pub data IsReading (now : ℕ) (line : List ℕ) : Line → Type 0 where
   written : length line ≤ 4194304 → (parts : Written) → Writes line parts
       → IsReading now line (outcome now line parts)
 
+-- the rows of what a line means, none where it is skipped
 abbrev pub rows_of : Line → Option (List RowOf)
 rows_of Nothing = Some []
 rows_of (Row row) = Some (row ∷ [])

@@ -25,6 +25,7 @@ abbrev pub within : List Pair → Option LimitFault → Option (List Pair)
 within labels None = Some labels
 within labels (Some fault) = None
 
+-- the same of pairs that make a label set, or don't
 abbrev pub kept : Result (List Pair) LabelFault → Option (List Pair)
 kept (Ok labels) = within labels (limit_of labels)
 kept (Err fault) = None
@@ -46,9 +47,9 @@ abbrev pub with_value : Result SampleText NumFault → ℕ → ℕ → Option �
 with_value (Err fault) value_at time_at time labels = Skipped value_at
 with_value (Ok value) value_at time_at time labels = with_time value time_at time labels
 
--- What a line comes to that is read at the time `now` and writes these parts: skipped at its value's
--- first byte where that is out of range, else at its time's where that is, else at 0 where its
--- labels make no label set or one that breaks a limit, and else its row.
+-- What a line comes to that is read at the time `now` and writes these parts: skipped at its
+-- value's first byte where that is out of range, else at its time's where that is, else at 0 where
+-- its labels make no label set or one that breaks a limit, and else its row.
 abbrev pub outcome : ℕ → List ℕ → Written → Line
 outcome now line written =
     with_value (sample_reading written.value) (length line - written.value_left)

@@ -19,15 +19,17 @@ use Rattle.vm_promtext.specs.declared.line.Line.{Line}
 use Rattle.vm_promtext.specs.declared.line.Line.TheVariants.{Nothing, Skipped}
 
 infixl 10 ◌>>=◌
+-- one reading and then another, which begins where that ends; a fault ends both
 abbrev pub ◌>>=◌ : {A B : Type 0} → Result A ℕ → (A → Result B ℕ) → Result B ℕ
 (Ok x) >>= f = f x
 (Err left) >>= f = Err left
 
+-- what stands after any blanks at the front
 abbrev pub behind_blanks : List ℕ → List ℕ
 behind_blanks [] = []
 behind_blanks (byte ∷ more) = if is_blank byte then behind_blanks more else byte ∷ more
 
--- what stands behind this byte
+-- what stands after this byte
 abbrev pub mark_reading : ℕ → List ℕ → Result (List ℕ) ℕ
 mark_reading mark text = if slice_index text 0 == mark then Ok (drop 1 text) else Err (length text)
 
@@ -51,16 +53,17 @@ value_before text (Some at) =
     if is_utf8 (take at text) then Ok (take at text, drop (at + 1) text)
     else Err (length text - readable nothing (take at text))
 
--- a value as it stands behind its opening quote, and the rest
+-- a value as it stands after its opening quote, and the rest
 unfoldable pub quoted_reading : List ℕ → Result (List ℕ × List ℕ) ℕ
 quoted_reading text = value_before text (quote_place false text)
 
--- a pair's name, its value as it stands, and the rest behind any blanks
+-- a pair's name, its value as it stands, and the rest after any blanks
 pub record PairRead : Type 0 where
   pub name : List ℕ
   pub raw : List ℕ
   pub rest : List ℕ
 
+-- the pair at the front of a text
 unfoldable pub pair_reading : List ℕ → Result PairRead ℕ
 pair_reading text = do
   name ← name_reading text
@@ -75,7 +78,7 @@ pub record Turn : Type 0 where
   pub closed : Bool
   pub rest : List ℕ
 
--- what stands behind a pair: a comma or the closing brace
+-- what stands after a pair: a comma or the closing brace
 abbrev pub behind_pair : List Pair → List ℕ → Result Turn ℕ
 behind_pair pairs text =
     if slice_index text 0 == 44
@@ -93,13 +96,13 @@ turn_reading before text =
     else pair_reading rest >>= (λ pair.
     behind_pair (before ++ record { name = pair.name; value = unescaped pair.raw } ∷ []) pair.rest)
 
--- the pairs of braces, with those before, and the rest; in at most so many turns
+-- the pairs of braces, with those before, and the rest; in at most so many steps
 unfoldable pub braces_reading : ℕ → List Pair → List ℕ → Result (List Pair × List ℕ) ℕ
 braces_reading zero before text = Err (length text)
 braces_reading (suc more) before text = turn_reading before text >>= (λ turn.
     if turn.closed then Ok (turn.pairs, turn.rest) else braces_reading more turn.pairs turn.rest)
 
--- the labels behind a name, with those before, and the rest
+-- the labels after a name, with those before, and the rest
 unfoldable pub labels_reading : List Pair → List ℕ → Result (List Pair × List ℕ) ℕ
 labels_reading before text =
     let rest = behind_blanks text in
@@ -119,6 +122,7 @@ unless_broken text (Err (NotANumber at)) = Err (length text - at)
 unless_broken text (Err TooWide) = Ok (Err TooWide, before_blank text)
 unless_broken text (Ok number) = Ok (Ok number, before_blank text)
 
+-- the value at the front, which ends before the first blank, and its length
 unfoldable pub value_reading : List ℕ → Result (Result SampleText NumFault × ℕ) ℕ
 value_reading text = unless_broken text (sample_reading (take (before_blank text) text))
 
@@ -128,17 +132,19 @@ until_end text end =
     if length end == 0 then Ok (take (prefix_len is_ascii_digit text) text, length text)
     else Err (length end)
 
+-- the digits at the front, where only blanks stand after them
 abbrev pub digits_reading : List ℕ → Result (List ℕ × ℕ) ℕ
 digits_reading text =
     if prefix_len is_ascii_digit text == 0 then Err (length text)
     else until_end text (behind_blanks (drop (prefix_len is_ascii_digit text) text))
 
+-- the time after a value, or that none is written
 unfoldable pub time_reading : List ℕ → Result (List ℕ × ℕ) ℕ
 time_reading text =
     let rest = behind_blanks text in
     if length rest == 0 then Ok ([], 0) else digits_reading rest
 
--- the line of which this text, behind any blanks, is a row
+-- the line of which this text, after any blanks, is a row
 unfoldable pub row_reading : ℕ → List ℕ → List ℕ → Result Line ℕ
 row_reading now line text = do
   name ← name_reading text
@@ -148,11 +154,13 @@ row_reading now line text = do
   Ok (with_value value.0 (length line - length labels.1) (length line - time.1)
       (time_of now time.0) (kept (built labels.0)))
 
+-- a line, which says nothing or writes a row
 unfoldable pub line_reading : ℕ → List ℕ → Result Line ℕ
 line_reading now line =
     let text = behind_blanks line in
     if length text == 0 || slice_index text 0 == 35 then Ok Nothing else row_reading now line text
 
+-- a fault as the place at which the line is skipped
 abbrev pub or_skipped : ℕ → Result Line ℕ → Line
 or_skipped len (Ok line) = line
 or_skipped len (Err left) = Skipped (len - left)

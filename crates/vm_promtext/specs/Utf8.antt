@@ -10,7 +10,7 @@ use Rattle.vm_promtext.specs.declared.utf8.Wanted.{Wanted}
 abbrev pub nothing : Wanted
 nothing = record { count = 0; least = 0x80; greatest = 0xBF }
 
--- what a character's first byte wants behind it, none where no character begins with it
+-- what a character's first byte wants after it, none where no character begins with it
 abbrev pub behind_first : ℕ → Option Wanted
 behind_first byte =
     if nat_lt byte 0x80 then Some nothing
@@ -22,7 +22,7 @@ behind_first byte =
     })
     else None)
 
--- what is wanted behind a byte, none where the byte can't stand here
+-- what is wanted after a byte, none where the byte can't stand here
 abbrev pub behind_byte : Wanted → ℕ → Option Wanted
 behind_byte wanted byte =
     if wanted.count == 0 then behind_first byte
@@ -30,7 +30,7 @@ behind_byte wanted byte =
     then Some (record { count = wanted.count - 1; least = 0x80; greatest = 0xBF })
     else None)
 
--- how many bytes of a text can stand one behind the other
+-- how many bytes of a text can stand one after the other
 abbrev pub readable : Wanted → List ℕ → ℕ
 readable wanted [] = 0
 readable wanted (byte ∷ more) =

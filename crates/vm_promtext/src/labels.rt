@@ -14,7 +14,7 @@ use std::alloc::{AllocError, Global};
 use vm_base::{List, Text};
 use vm_labels::Pair;
 
-/// A label as it is spelled, and what stands behind it and any blanks.
+/// A label as it is spelled, and what stands after it and any blanks.
 #[derive(Clone, Copy)]
 struct Spelled<'a> {
     name: &'a [u8],
@@ -22,14 +22,14 @@ struct Spelled<'a> {
     rest: &'a [u8],
 }
 
-/// What stands behind the pairs so far.
+/// What stands after the pairs so far.
 #[derive(Clone, Copy)]
 struct Turn<'a> {
     closed: bool,
     rest: &'a [u8],
 }
 
-/// Adds the labels behind a name to `pairs`, and gives what stands behind them and any blanks.
+/// Adds the labels after a name to `pairs`, and gives what stands after them and any blanks.
 #[tactic(auto, unfolding(crate::specs::Reading::labels_reading))]
 pub fn read_labels<'a>(
     alloc: Global,
@@ -49,7 +49,7 @@ pub fn read_labels<'a>(
     Err(Stop::Broken(Wrong { left: rest.len() }))
 }
 
-/// Adds the pairs in braces, and gives what stands behind the closing brace.
+/// Adds the pairs in braces, and gives what stands after the closing brace.
 fn read_braces<'a>(alloc: Global, pairs: &mut List<Pair>, text: &'a [u8]) -> Result<&'a [u8], Stop>
     ensures { Gives (λ rest. (pairs.new, rest.now)) result
         (braces_reading (length text.now) pairs.old text.now) }

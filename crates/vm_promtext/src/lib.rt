@@ -6,8 +6,8 @@
 //!
 //! Begin with `Line` and `read_line`, which reads a line by its parts from left to right. Each part
 //! has a file: `tokens`, `quoted` with `utf8` and `escapes`, `labels` and `row`. Where a part goes
-//! wrong it says how many bytes of the line are left there, so that no part has to know where in the
-//! line it stands.
+//! wrong it says how many bytes of the line are left there, so that no part has to know where in
+//! the line it stands.
 //!
 //! It stands on `vm_labels` for names, label sets and rows, on `vm_decimal` for the value, and on
 //! `memchr` to find the quote that ends a label's value.

@@ -31,10 +31,10 @@ pub enum Line {
 /// `Skipped` names the first byte with which the bytes so far begin no line, or the line's length
 /// where it ends too early. Where the line is in the grammar, it names the value's first byte for a
 /// value out of range, or else the time's for a time above 2^48 - 1, or else 0 for labels that make
-/// no label set or one beyond the limits of an import. These faults stand before `NoNumber`.
+/// no label set or one beyond the limits of an import. These faults come before `NoNumber`.
 ///
-/// A line of more than 4,194,304 bytes is `Skipped` at 4,194,304 whatever it holds, since a reader of
-/// a stream never holds such a line as a whole. An `Err` says that memory ran out.
+/// A line of more than 4,194,304 bytes is `Skipped` at 4,194,304 whatever it holds, since a reader
+/// of a stream never holds such a line as a whole. An `Err` says that memory ran out.
 ///
 /// (Prometheus text format 0.0.4, "Line format")
 pub fn read_line(alloc: Global, line: &[u8], now: u64) -> Result<Line, AllocError>

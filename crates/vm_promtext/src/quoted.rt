@@ -1,4 +1,4 @@
-//! The value of a label, from behind its opening quote on.
+//! The value of a label, from after its opening quote on.
 
 ghost use Rattle.std.specs.Prelude.{◌≡◌, ◌<◌, ◌-◌, length, false, IfSome};
 ghost use Rattle.vm_promtext.specs.Reading.{quote_place, quoted_reading};
@@ -9,7 +9,7 @@ use crate::stop::Wrong;
 use crate::utf8::readable;
 use memchr::memchr2;
 
-/// The value as it stands before the quote that ends it, and what stands behind that quote.
+/// The value as it stands before the quote that ends it, and what stands after that quote.
 #[tactic(auto, unfolding(crate::specs::Reading::quoted_reading))]
 pub fn quoted(text: &[u8]) -> Result<(&str, &[u8]), Wrong>
     ensures { seen (λ p. (p.0.now, p.1.now)) result ≡ quoted_reading text.now }

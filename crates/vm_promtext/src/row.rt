@@ -37,7 +37,7 @@ struct Timed<'a> {
     left: usize,
 }
 
-/// Reads the line of which this text, behind any blanks, is the row.
+/// Reads the line of which this text, after any blanks, is the row.
 #[tactic(auto, unfolding(crate::specs::Reading::row_reading))]
 pub fn read_row(alloc: Global, line: &[u8], text: &[u8], now: u64) -> Result<Line, Stop>
     ensures { Gives (λ said. said) result (row_reading now line.now text.now) }
@@ -58,7 +58,7 @@ pub fn read_row(alloc: Global, line: &[u8], text: &[u8], now: u64) -> Result<Lin
     Ok(labeled(alloc, number, time, pairs)?)
 }
 
-/// The place in a line behind which this many bytes are left.
+/// The place in a line after which this many bytes are left.
 pub fn place(line: &[u8], left: usize) -> u64
     ensures { result ≡ length line.now - left }
 {
@@ -120,7 +120,7 @@ fn read_value(text: &[u8]) -> Result<Valued, Wrong>
     Ok(Valued { number, len })
 }
 
-/// The time behind a value, with any blanks around it.
+/// The time after a value, with any blanks around it.
 #[tactic(auto, unfolding(crate::specs::Reading::time_reading))]
 fn read_time(text: &[u8]) -> Result<Timed<'_>, Wrong>
     ensures value { seen (λ t. (t.digits.now, t.left)) result ≡ time_reading text.now }
@@ -136,7 +136,7 @@ fn read_time(text: &[u8]) -> Result<Timed<'_>, Wrong>
     read_digits(rest)
 }
 
-/// The digits at the front of a text, where only blanks stand behind them.
+/// The digits at the front of a text, where only blanks stand after them.
 fn read_digits(text: &[u8]) -> Result<Timed<'_>, Wrong>
     ensures value { seen (λ t. (t.digits.now, t.left)) result ≡ digits_reading text.now }
     ensures digits { IfOk result (λ t. list_all is_ascii_digit t.digits.now ≡ true) }

@@ -8,13 +8,16 @@ use std::alloc::AllocError;
 /// A line goes wrong where this many of its bytes are left.
 #[derive(Clone, Copy)]
 pub struct Wrong {
+    /// How many bytes of the line are left.
     pub left: usize,
 }
 
 /// Why a step that takes memory stops.
 #[derive(Clone, Copy)]
 pub enum Stop {
+    /// Memory ran out.
     Memory,
+    /// The line goes wrong.
     Broken(Wrong),
 }
 

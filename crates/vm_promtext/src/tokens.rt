@@ -15,7 +15,7 @@ fn is_blank(byte: u8) -> bool
     byte == b' ' || byte == b'\t'
 }
 
-/// What stands behind the blanks at the front of a text.
+/// What stands after the blanks at the front of a text.
 pub fn behind_blanks(text: &[u8]) -> &[u8]
     ensures value { result.now ≡ behind_blanks text.now }
     ensures within { length result.now ≤ length text.now }
@@ -27,7 +27,7 @@ pub fn behind_blanks(text: &[u8]) -> &[u8]
     rest
 }
 
-/// What stands behind a byte that has to come first.
+/// What stands after a byte that has to come first.
 pub fn behind_mark(text: &[u8], mark: u8) -> Result<&[u8], Wrong>
     requires { 0 < mark }
     ensures { seen (λ rest. rest.now) result ≡ mark_reading mark text.now }
@@ -38,7 +38,7 @@ pub fn behind_mark(text: &[u8], mark: u8) -> Result<&[u8], Wrong>
     Ok(&text[1..])
 }
 
-/// The name at the front of a text, and what stands behind it.
+/// The name at the front of a text, and what stands after it.
 pub fn named(text: &[u8]) -> Result<(&[u8], &[u8]), Wrong>
     ensures value { seen (λ p. (p.0.now, p.1.now)) result ≡ name_reading text.now }
     ensures named { IfOk result (λ p. is_name p.0.now ≡ true) }

@@ -24,7 +24,7 @@ impl Wanted {
         greatest: 0xBF,
     };
 
-    /// What is wanted behind a byte, none where the byte can't stand here.
+    /// What is wanted after a byte, none where the byte can't stand here.
     fn behind(self, byte: u8) -> Option<Wanted>
         ensures { result ≡ behind_byte self byte }
     {
@@ -41,7 +41,7 @@ impl Wanted {
         })
     }
 
-    /// What a character's first byte wants behind it.
+    /// What a character's first byte wants after it.
     fn behind_first(byte: u8) -> Option<Wanted>
         ensures { result ≡ behind_first byte }
     {
@@ -76,8 +76,8 @@ impl Wanted {
     }
 }
 
-/// The place of the first byte with which the bytes so far begin no UTF-8, or the text's length where
-/// there is none.
+/// The place of the first byte with which the bytes so far begin no UTF-8, or the text's length
+/// where there is none.
 pub fn readable(text: &[u8]) -> usize
     ensures value { result ≡ readable nothing text.now }
     ensures within { result ≤ length text.now }

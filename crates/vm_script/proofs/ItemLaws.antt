@@ -42,7 +42,7 @@ cut_none (char ∷ more) whole =
       | false ↦ λ is. rw (slice_split-cons_no is_quote char more is, cut_none more (quote_later char more whole is)) refl
     ] refl
 
--- an item that is read is put before the items behind it
+-- an item that is read is put before the items after it
 pub item_first : (before : List Filter) (item : Filter) (read : Option (List Filter))
     → with_front (before ++ item ∷ []) read ≡ with_front before (option_and_then (λ items. Some (item ∷ items)) read)
 item_first before item None = refl
@@ -75,7 +75,7 @@ boundary_at text (suc at) utf8 within ascii =
     let P : ℕ → Type 0 = IsCharBoundary text in
     subst P (add-one at) (IsCharBoundary-after_ascii text at utf8 within (ascii at (omega arith)))
 
--- a text may be cut behind a name at its front
+-- a text may be cut after a name at its front
 pub name_boundary : (text : List ℕ) → IsUtf8 text → IsCharBoundary text (name_len text)
 name_boundary text utf8 =
     elim (begins_name (get_or text 0 0)) as (λ b. IsCharBoundary text (if b then prefix_len is_name_byte text else 0)) [
@@ -92,7 +92,7 @@ lacks_first first char more lacks =
       | false ↦ λ is. refl
     ] refl
 
--- what `strip_prefix` gives is what stands behind the character
+-- what `strip_prefix` gives is what stands after the character
 pub stripped : (first : ℕ) (text : List ℕ) (rest : Option (Bor (List ℕ)))
     → MatchOption rest ((more : List ℕ) → text ≡ first ∷ more → ⊥) (λ more. text ≡ first ∷ more.now)
     → 0 < first
@@ -101,7 +101,7 @@ stripped first [] None lacks some = grind (arith, nat_tests)
 stripped first (char ∷ more) None lacks some = lacks_first first char more lacks
 stripped first text (Some more) is some = rw (is, eq-eqb first first refl) refl
 
--- a text with something behind its first character begins with that
+-- a text with something after its first character begins with that
 pub behind_back : (first : ℕ) (text rest : List ℕ) → behind first text ≡ Some rest → 0 < first
     → text ≡ first ∷ rest
 behind_back first [] rest is some = grind (arith, nat_tests)
@@ -128,7 +128,7 @@ last_piece char more [] joined some comma = absurd (omega arith)
 last_piece char more (piece ∷ []) joined some comma = rw joined refl
 last_piece char more (piece ∷ value ∷ rest) joined some comma = rw (← joined, comma, goes_on char piece (join_with_byte 34 (value ∷ rest))) refl
 
--- what stands behind the last item is the brace alone
+-- what stands after the last item is the brace alone
 pub items_end : (text : List ℕ) → behind 44 text ≡ None
     → items_behind text ≡ (if bytes_eq text (codes "}") then Some [] else None)
 items_end [] none = refl

@@ -62,7 +62,7 @@ key_no_quote : (item : Filter) → IsItem item
     → list_any is_quote (44 ∷ (item.name ++ op_text item.op)) ≡ false
 key_no_quote item h = list_any-append is_quote item.name (op_text item.op) ∙ rw (name_no_quote item.name h.name.is_name, op_no_quote item.op) refl
 
--- the text of an item and what stands behind it, put together at the quotes
+-- the text of an item and what stands after it, put together at the quotes
 pub item_text-append : (item : Filter) (rest : List ℕ)
     → (44 ∷ item_text item) ++ rest ≡ (44 ∷ (item.name ++ op_text item.op)) ++ 34 ∷ (item.value ++ 34 ∷ rest)
 item_text-append item rest = simp append_assoc

@@ -191,7 +191,7 @@ inner_was inner items is =
           (behind_brace inner items (sym (join_with_byte-slice_split 34 (44 ∷ inner)) ∙ were.0), were.1)
     ] refl is
 
--- what stands behind a metric's name, where it is read: nothing, or braces
+-- what stands after a metric's name, where it is read: nothing, or braces
 braces_was : (text : List ℕ) (items : List Filter) → braces_filters text ≡ Some items
     → ((text ≡ []) × (items ≡ [])) ⊎ ((text ≡ braces_text items) × AllByRecursion IsItem items)
 braces_was [] items is = inl (refl, sym (some_same [] items is))

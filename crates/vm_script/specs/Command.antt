@@ -9,6 +9,7 @@ use Rattle.vm_script.specs.declared.command.Command.{Command}
 use Rattle.vm_script.specs.declared.command.Command.TheVariants.{Import, Query, Run, End, Close}
 use Rattle.vm_script.specs.declared.command.Format.TheVariants.{Prom, Json}
 
+-- the character between words
 abbrev pub is_space : ℕ → Bool
 is_space char = char == byte " "
 
@@ -16,7 +17,7 @@ is_space char = char == byte " "
 abbrev pub first_word : List ℕ → List ℕ
 first_word = before_first is_space
 
--- what stands behind the first space, nothing where there is none
+-- what stands after the first space, nothing where there is none
 abbrev pub behind_word : List ℕ → List ℕ
 behind_word = after_first is_space
 

@@ -21,9 +21,11 @@ reserved =
 abbrev pub is_reserved : List ℕ → Bool
 is_reserved name = list_any (str_eq_ignore_ascii_case name) reserved
 
+-- the quote around a value
 abbrev pub is_quote : ℕ → Bool
 is_quote char = char == byte "\""
 
+-- the backslash, which no value has
 abbrev pub is_backslash : ℕ → Bool
 is_backslash char = char == byte "\\"
 
@@ -58,6 +60,7 @@ pub data Written : Type 0 where
   braces : List Filter → Written
   both : List ℕ → List Filter → Written
 
+-- the text of a selector that is written so
 abbrev pub written_text : Written → List ℕ
 written_text (metric name) = name
 written_text (braces items) = braces_text items
@@ -108,7 +111,7 @@ pub record Spells (text : List ℕ) (selector : Selector) : Type 0 where
 abbrev pub front_name : List ℕ → List ℕ
 front_name text = take (name_len text) text
 
--- what stands behind it
+-- what stands after it
 abbrev pub behind_name : List ℕ → List ℕ
 behind_name text = drop (name_len text) text
 
@@ -123,6 +126,7 @@ op_of text =
 abbrev pub is_free_name : List ℕ → Bool
 is_free_name name = nat_lt 0 (length name) && not (is_reserved name)
 
+-- the filter of a name, a text and an operator
 abbrev pub filter_with : List ℕ → List ℕ → FilterOp → Filter
 filter_with name value op = record { name = name; op = op; value = value }
 
@@ -132,7 +136,7 @@ item_of key value =
     if is_free_name (front_name key) && not (list_any is_backslash value)
     then option_map (filter_with (front_name key) value) (op_of (behind_name key)) else None
 
--- what stands behind the first character, where it is this one
+-- what stands after the first character, where it is this one
 abbrev pub behind : ℕ → List ℕ → Option (List ℕ)
 behind first text = if slice_index text 0 == first then Some (drop 1 text) else None
 
@@ -147,11 +151,11 @@ items_of (front ∷ value ∷ more) = do
   items ← items_of more
   Some (item ∷ items)
 
--- the filters of what stands behind an item
+-- the filters of what stands after an item
 abbrev pub items_behind : List ℕ → Option (List Filter)
 items_behind text = items_of (slice_split is_quote text)
 
--- The filters of what stands behind the opening brace. With a comma put before it, the first item
+-- The filters of what stands after the opening brace. With a comma put before it, the first item
 -- is read as the others are.
 abbrev pub inner_filters : List ℕ → Option (List Filter)
 inner_filters inner =
@@ -169,7 +173,7 @@ metric_filters name =
     else (if is_reserved name then None
     else Some (metric_filter name ∷ []))
 
--- the filters of a metric's name, perhaps none, and of what stands behind it
+-- the filters of a metric's name, perhaps none, and of what stands after it
 abbrev pub filters_with : List ℕ → List ℕ → Option (List Filter)
 filters_with name behind = do
   first ← metric_filters name

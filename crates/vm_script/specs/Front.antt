@@ -1,5 +1,5 @@
--- Filters before those that are read: a word of the reader's inner contracts, which no public contract
--- cites.
+-- Filters before those that are read: a word of the reader's inner contracts, which no public
+-- contract cites.
 use Rattle.std.specs.Prelude.{List, ◌++◌, Option}
 use Rattle.std.specs.Option.{option_map}
 use Rattle.vm_labels.specs.declared.selector.Filter.{Filter}

@@ -122,7 +122,7 @@ fn read_query(alloc: Global, words: &str) -> Result<Option<Command>, AllocError>
     }))
 }
 
-/// The first word and what stands behind the space after it.
+/// The first word and what stands after the space after it.
 fn parted(text: &str) -> (&str, &str)
     ensures word { result.0.now ≡ first_word text.now }
     ensures rest { result.1.now ≡ behind_word text.now }

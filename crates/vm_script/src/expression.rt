@@ -38,7 +38,7 @@ const RESERVED: [&str; 16] = [
 
 /// The selector that a text spells, as one list of filters in the order of the text, or none.
 ///
-/// It is a metric's name, or braces, or both, without blanks between. In the braces stand nothing
+/// It is a metric's name, or braces, or both, without blanks between. The braces hold nothing
 /// or items `name="value"` or `name!="value"`, parted by commas. A value is any text without `"`
 /// and `\`. No name is a reserved word of the query language. A metric's name is the filter
 /// `__name__="name"`, before the others.
@@ -97,7 +97,7 @@ fn metric_filters(alloc: Global, name: &str) -> Result<Option<List<Filter>>, All
     Ok(Some(filters))
 }
 
-/// The filters with those of the braces behind them.
+/// The filters with those of the braces after them.
 fn braces_filters(
     alloc: Global,
     filters: List<Filter>,
@@ -114,7 +114,7 @@ fn braces_filters(
     }
 }
 
-/// The filters with those of what stands behind the opening brace.
+/// The filters with those of what stands after the opening brace.
 fn inner_filters(
     alloc: Global,
     filters: List<Filter>,
@@ -132,7 +132,7 @@ fn inner_filters(
     more_filters(alloc, filters, behind)
 }
 
-/// The filters with those of what stands behind an item.
+/// The filters with those of what stands after an item.
 fn more_filters(
     alloc: Global,
     filters: List<Filter>,
@@ -155,7 +155,7 @@ fn more_filters(
     }
 }
 
-/// Puts the item at the front of a text to the filters, and gives what stands behind it. None where
+/// Puts the item at the front of a text to the filters, and gives what stands after it. None where
 /// no item stands there.
 fn push_item<'a>(
     alloc: Global,
@@ -182,7 +182,7 @@ fn push_item<'a>(
     Ok(Some(behind))
 }
 
-/// What stands before the first quote of a text and behind it.
+/// What stands before the first quote of a text and after it.
 #[tactic(auto, using(crate::proofs::ItemLaws::cut_first, crate::proofs::ItemLaws::cut_none))]
 fn cut_at_quote(text: &str) -> Option<(&str, &str)>
     ensures cut { IfSome result (λ parts.
@@ -221,7 +221,7 @@ fn op_of(text: &str) -> Option<FilterOp>
     }
 }
 
-/// The name at the front of a text and what stands behind it.
+/// The name at the front of a text and what stands after it.
 fn split_name(text: &str) -> (&str, &str)
     ensures name { result.0.now ≡ front_name text.now }
     ensures rest { result.1.now ≡ behind_name text.now }
@@ -229,7 +229,7 @@ fn split_name(text: &str) -> (&str, &str)
     text.split_at(name_len(text.as_bytes()))
 }
 
-/// What stands behind the first character of a text, where it is this one.
+/// What stands after the first character of a text, where it is this one.
 fn behind(first: char, text: &str) -> Option<&str>
     requires some { 0 < first }
     requires ascii { first < 128 }

@@ -7,7 +7,7 @@ ghost use Rattle.vm_script.specs.Digit.{with_digit};
 /// How many digits a number has at most.
 const NUMBER_DIGITS: usize = 20;
 
-/// The number that 1 to 20 decimal digits write. Noughts may stand in front. None where a byte is
+/// The number that 1 to 20 decimal digits write. Zeros may stand in front. None where a byte is
 /// no digit, where there is none or are too many, or where the number is 2^64 or more.
 pub fn read_number(digits: &[u8]) -> Option<u64>
     ensures { result ≡ number_of digits.now }
@@ -22,7 +22,7 @@ pub fn read_number(digits: &[u8]) -> Option<u64>
     Some(number)
 }
 
-/// The number with one more digit behind it.
+/// The number with one more digit after it.
 fn with_digit(number: u64, digit: u8) -> Option<u64>
     ensures { result ≡ with_digit number digit }
 {

@@ -1,4 +1,5 @@
--- Pieces in label order: those at the front that share a label set make one series, and the others come behind it.
+-- Pieces in label order: those at the front that share a label set make one series, and the others
+-- come after it.
 use Rattle.std.proofs.Common.{◌≡◌, ℕ, suc, ◌+◌, ◌<◌, Bool, true, false, cond, List, [], ◌∷◌, ◌++◌, length, get_or, take, drop, map, flat_map, append_assoc, refl, sym, ap, ap₂, ◌∙◌, subst, arith, add-one, IsPermutation, IsSortedBy, Ordering, Less, Equal, Greater, is_lt, is_le, true≢false, take-append-drop}
 use Rattle.std.specs.List.{AllByRecursion, prefix_len}
 use Rattle.std.specs.Ordering.{ordering_reverse}
@@ -78,7 +79,7 @@ strictly_below = strictly label_cmp label_cmp-total label_eq label_eq-Decides la
 below_and_upto : (a b c : List Pair) → is_set_below a b ≡ true → is_in_label_order b c ≡ true → is_set_below a c ≡ true
 below_and_upto = below_upto label_cmp label_cmp-total label_eq label_eq-Decides labels_tied
 
--- the pieces behind a group are of sets above it
+-- the pieces after a group are of sets above it
 rest_above : (labels : List Pair) (pieces : List Piece) → InLabelOrder pieces
     → AllByRecursion (λ piece. is_in_label_order labels piece.labels.now ≡ true) pieces
     → AllByRecursion (λ piece. is_set_below labels piece.labels.now ≡ true) (drop (group_len labels pieces) pieces)
@@ -103,7 +104,7 @@ row_labels P pieces all =
     (all_flat_map (λ (row : Row). P row.labels) rows_of_piece pieces
     (all_more _ _ (λ (piece : Piece) h. all_map (λ (row : Row). P row.labels) (row_of piece.labels.now) piece.samples.now (all_of _ (λ _. h) piece.samples.now)) pieces all))
 
--- the rows of a group stand before those behind it
+-- the rows of a group stand before those after it
 group_below : (labels : List Pair) (group rest : List Piece) → OfOneSet labels group
     → AllByRecursion (λ piece. is_set_below labels piece.labels.now ≡ true) rest
     → AllBelow (labels_of (rows_of_all group)) (labels_of (rows_of_all rest))
@@ -134,7 +135,7 @@ first_upto piece (p ∷ ps) some is up =
 up_rest : (k : ℕ) (pieces : List Piece) → InLabelOrder pieces → InLabelOrder (drop k pieces)
 up_rest k pieces up = up_drop (λ a b. is_in_label_order a.labels.now b.labels.now) k pieces up
 
--- the series of a group come before those of the pieces behind it
+-- the series of a group come before those of the pieces after it
 group_series : (d : ℕ) (piece : Piece) (pieces : List Piece) → 0 < length pieces → piece ≡ get_or pieces 0 piece → InLabelOrder pieces
     → series_of d (rows_of_all pieces)
     ≡ series_of d (rows_of_all (take (group_len piece.labels.now pieces) pieces)) ++ series_of d (rows_of_all (drop (group_len piece.labels.now pieces) pieces))

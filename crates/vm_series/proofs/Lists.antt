@@ -1,5 +1,5 @@
--- Lists that are sorted or thinned, and of which each item is kept once: what holds of each item, and how often
--- an item stands there.
+-- Lists that are sorted or thinned, and of which each item is kept once: what holds of each item,
+-- and how often an item stands there.
 use Rattle.std.proofs.Common.{◌≡◌, ℕ, suc, ◌+◌, ◌<◌, ◌&&◌, ◌||◌, Bool, true, false, cond, List, [], ◌∷◌, ◌++◌, length, map, filter, flat_map, count_by, sum_by, IsPermutation, refl, sym, ap, ap₂, ◌∙◌, arith}
 use Rattle.std.specs.Bool.{Decides}
 use Rattle.std.specs.List.{AllByRecursion, dedup, dedup_from, list_any}

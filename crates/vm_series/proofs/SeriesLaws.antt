@@ -142,7 +142,7 @@ visible-same_counts d set rows others same =
     (counts-map stamped (filter (λ r. label_eq set r.labels) rows) (filter (λ r. label_eq set r.labels) others)
     (counts-filter (λ r. label_eq set r.labels) rows others same)))
 
--- rows that stand equally often have the same series
+-- lists that hold each row equally often have the same series
 pub series-same_counts : (d : ℕ) (rows others : List Row) → SameCounts rows others → series_of d rows ≡ series_of d others
 series-same_counts d rows others same =
     ap (map (series_among d rows))
@@ -152,7 +152,7 @@ series-same_counts d rows others same =
 
 -- ---- rows of which the label sets of some stand before those of the others
 
--- each of these label sets stands below each of those
+-- each of these label sets is below each of those
 abbrev pub AllBelow : List (List Pair) → List (List Pair) → Type 0
 AllBelow sets others = AllByRecursion (λ a. AllByRecursion (λ b. is_set_below a b ≡ true) others) sets
 
@@ -166,7 +166,7 @@ samples-append set xs ys =
     ∙ map-append stamped (filter (λ row. label_eq set row.labels) xs) (filter (λ row. label_eq set row.labels) ys)
 
 module _ (d : ℕ) (xs ys : List Row) (below : AllBelow (labels_of xs) (labels_of ys)) where
-  -- each set among the first stands below each set of the others, and the other way round
+  -- each set among the first is below each set of the others, and the other way round
   first_sets : AllByRecursion (λ a. AllByRecursion (λ b. is_set_below a b ≡ true) (labels_of ys)) (sets_among xs)
   first_sets = all_sets (λ a. AllByRecursion (λ b. is_set_below a b ≡ true) (labels_of ys)) xs below
 
@@ -242,7 +242,7 @@ samples_among d rows set (l ∷ ls) up =
         rw none (append-nil (visible d l rows) ∙ ap (λ s. visible d s rows) (sym is))
     go false apart = refl
 
--- of each label set, the series of rows have just what is seen of it
+-- of each label set, the series of rows have exactly what is seen of it
 pub samples-series_of : (d : ℕ) (rows : List Row) → HaveWhatIsSeen d rows (series_of d rows)
 samples-series_of d rows set =
     samples_among d rows set (sets_among rows) (sets_among-rise rows) ∙ go (list_any (label_eq set) (sets_among rows)) refl

@@ -18,10 +18,12 @@ use Rattle.vm_series.specs.declared.series.Series.{Series}
 abbrev pub sets_among : List Row → List (List Pair)
 sets_among rows = dedup label_eq (sorted is_in_label_order (map (λ row. row.labels) rows))
 
--- a label set with what is seen of it among rows, where the samples of an interval of d ms become one
+-- a label set with what is seen of it among rows, where the samples of an interval of d ms become
+-- one
 abbrev pub series_among : ℕ → List Row → List Pair → Series
 series_among d rows labels = record { labels = labels; samples = visible d labels rows }
 
+-- the series of rows
 abbrev pub series_of : ℕ → List Row → List Series
 series_of d rows = map (series_among d rows) (sets_among rows)
 
@@ -35,11 +37,13 @@ row_of labels sample = record { labels = labels; time = sample.time; value = sam
 abbrev pub rows_of : Series → List Row
 rows_of series = map (row_of series.labels) series.samples
 
+-- each sample of a piece, with the labels of the piece
 abbrev pub rows_of_piece : Piece → List Row
 rows_of_piece piece = map (row_of piece.labels.now) piece.samples.now
 
 -- ---- what a reader of series may expect
 
+-- a series with a sample
 abbrev pub HasSample : Series → Type 0
 HasSample series = 0 < length series.samples
 
@@ -47,12 +51,13 @@ HasSample series = 0 < length series.samples
 abbrev pub IsByTime : Series → Type 0
 IsByTime series = IsUp is_in_order series.samples
 
--- the label sets rise, so none stands twice; no series is empty, and the samples of each are in order
+-- the label sets rise, so none stands twice; no series is empty, and the samples of each are in
+-- order
 pub record AreSeries (all : List Series) : Type 0 where
   pub rising : SetsRise (map (λ series. series.labels) all)
   pub some : AllByRecursion HasSample all
   pub ordered : AllByRecursion IsByTime all
 
--- of each label set they have just what is seen of it among rows
+-- of each label set they have exactly what is seen of it among rows
 abbrev pub HaveWhatIsSeen : ℕ → List Row → List Series → Type 0
 HaveWhatIsSeen d rows all = (labels : List Pair) → samples labels (flat_map rows_of all) ≡ visible d labels rows

@@ -1,4 +1,5 @@
-//! Pieces, gathered into series: those of one label set stand together once they are in label order.
+//! Pieces, gathered into series: those of one label set stand together once they are in label
+//! order.
 
 ghost use Rattle.std.specs.Prelude.{◌≡◌, ◌≤◌, ◌++◌, length, flat_map, IfOk, OnOk};
 ghost use Rattle.std.specs.List.{prefix_len};
@@ -15,8 +16,8 @@ use vm_base::{List, Stamped};
 use vm_dedup::Dedup;
 use vm_labels::Labels;
 
-/// The series of pieces: each label set that has a sample, in label order, with the samples of all its
-/// pieces in order. Of each interval of this many ms the last sample stays; at 0 all stay.
+/// The series of pieces: each label set that has a sample, in label order, with the samples of all
+/// its pieces in order. Of each interval of this many ms the last sample stays; at 0 all stay.
 pub fn gather(
     alloc: Global,
     mut pieces: Vec<Piece<'_>>,

@@ -3,10 +3,11 @@ use std::env;
 use std::io::ErrorKind;
 use std::rt::Env;
 
-/// The words of the command line, without the program's name. The only error is want of memory.
+/// The words of the command line, without the program's name. The only error is that memory ran
+/// out.
 ///
-/// The system gives bytes, and a word that isn't UTF-8 is none that a command knows. Where there is
-/// one, be it the program's name, there are no words, which is a faulty command line too.
+/// The system gives bytes, and no command knows a word that isn't UTF-8. Where there is such a word,
+/// even the program's name, this gives no words, and those are no command line either.
 pub fn words<R: Env + AllocGlobal>(rt: &R) -> Result<Vec<String>, AllocError> {
     let mut words = Vec::new(rt.alloc());
     match env::args(rt) {

@@ -1,8 +1,10 @@
-//! The edge of the program: the system's streams, clock and command line under the traits of `vm_outside`.
+//! The edge of the program: the system's streams, clock and command line under the traits of
+//! `vm_outside`.
 //!
-//! `ReaderSource`, `WriterSink` and `SystemClock` tell contracts no content, since no proof knows what the
-//! system gives and takes; they are proved for their causes alone. So each stays a few lines long, and all
-//! that the program decides stands in `vm_top` and the crates below it. `words` reads the command line.
+//! `ReaderSource`, `WriterSink` and `SystemClock` tell contracts no content, since no proof knows
+//! what the system gives and takes; they are proved for their causes alone. So each stays a few
+//! lines long, and all that the program decides stands in `vm_top` and the crates below it. `words`
+//! reads the command line.
 //!
 //! It stands on `vm_outside` for the traits.
 #![tactic(auto)]

@@ -1,8 +1,8 @@
 //! The program: a command line, standard input, standard output and the clock, handed to
 //! `vm_top::run_words`.
 //!
-//! It decides nothing else. The adapters of `vm_system` bring the system's streams and clock under the
-//! traits of `vm_outside`, and `vm_top` says what each command does.
+//! It decides nothing else. The adapters of `vm_system` bring the system's streams and clock under
+//! the traits of `vm_outside`, and `vm_top` says what each command does.
 #![tactic(auto)]
 
 use std::process::ExitCode;

@@ -1,4 +1,4 @@
--- Noughts behind the mantissa, as many as the exponent is above that of the block.
+-- Zeros after the mantissa, as many as the exponent is above that of the block.
 use Rattle.std.proofs.Common.{◌≡◌, ◌+◌, ◌-◌, ◌*◌, ◌^◌, ◌<◌, ℤ, unsigned_abs, ap, sym, subst, ◌∙◌, w64, arith, rules}
 use Rattle.std.proofs.lemmas.Int.{to_z-of_z}
 use Rattle.std.specs.Int.{is_negative}

@@ -1,4 +1,4 @@
--- Each field behind those before it.
+-- Each field after those before it.
 use Rattle.std.proofs.Common.{◌∷◌, [], refl, sym, ap, ap₂, ◌∙◌, w16, w32, w64, arith, rules}
 use Rattle.std.proofs.lemmas.Int.{to_z-of_z}
 use Rattle.std.proofs.lemmas.List.{take_all}

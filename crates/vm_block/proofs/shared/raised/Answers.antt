@@ -1,4 +1,4 @@
--- Eighteen noughts are too many.
+-- Eighteen zeros are too many.
 use Rattle.std.proofs.Common.{arith}
 use Rattle.vm_block.proofs.Exponents.{far_raised}
 use Rattle.vm_block.proofs.shared.raised.Goals as goal
