@@ -4,7 +4,7 @@ use Rattle.std.proofs.Common.{refl, ap, subst}
 use Rattle.vm_base.specs.FirstWrong.{FirstWrong}
 use Rattle.vm_base.proofs.RunLaws.{one_place, none_wrong}
 use Rattle.vm_decimal.specs.DecText.{SaysNumber, IsBeyond, dec_value, or_too_wide, dec_valued, dec_reading}
-use Rattle.vm_decimal.specs.SampleText.{number_reading}
+use Rattle.vm_decimal.specs.SampleReading.{number_reading}
 use Rattle.vm_decimal.specs.Spelled.{Spelled, IsNumber, IsAnyNumber}
 use Rattle.vm_decimal.specs.declared.sample_text.NumFault.{NumFault}
 use Rattle.vm_decimal.specs.declared.sample_text.NumFault.TheVariants.{NotANumber, TooWide}

@@ -12,7 +12,7 @@ use Rattle.vm_decimal.specs.DecText.{dec_value, dec_reading, or_too_wide, dec_va
 use Rattle.vm_decimal.specs.Exact.{IsWide, IsExact}
 use Rattle.vm_decimal.specs.NumberMachine.{State, symbol_of, next, may_end, step, start, spelled}
 use Rattle.vm_decimal.specs.Reader.{IsCapped, Stands}
-use Rattle.vm_decimal.specs.SampleText.{number_reading}
+use Rattle.vm_decimal.specs.SampleReading.{number_reading}
 use Rattle.vm_decimal.specs.Spelled.{Spelled, IsNumber}
 use Rattle.vm_decimal.specs.declared.exact.Exact.{Exact}
 use Rattle.vm_decimal.specs.declared.number_machine.Phase.{Phase}

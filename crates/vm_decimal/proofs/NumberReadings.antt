@@ -6,7 +6,7 @@ use Rattle.vm_base.specs.Run.{IsRead}
 use Rattle.vm_base.proofs.RunLaws.{reading-result, result-reading, FirstWrong-reading, FirstWrong-same}
 use Rattle.vm_decimal.specs.Spelled.{Spelled, IsNumber, IsAnyNumber}
 use Rattle.vm_decimal.specs.NumberMachine.{State, step, final, start}
-use Rattle.vm_decimal.specs.SampleText.{number_reading}
+use Rattle.vm_decimal.specs.SampleReading.{number_reading}
 use Rattle.vm_decimal.specs.declared.number_machine.Phase.{Phase}
 use Rattle.vm_decimal.specs.declared.number_machine.Phase.TheVariants.{Start, Signed, Whole, Bare, Fraction, Marked, MarkSigned, Power}
 use Rattle.vm_decimal.proofs.Spellings.{at_phase, spelled_by, number_read}

@@ -15,7 +15,7 @@ use Rattle.vm_decimal.specs.Dec.{dec_of}
 use Rattle.vm_decimal.specs.DecText.{dec_reading}
 use Rattle.vm_decimal.specs.Quick.{BeginsQuick, FewDigits, SignedPower, QuickPower, QuickValue, SpellsQuick}
 use Rattle.vm_decimal.specs.Rounded.{sample_value}
-use Rattle.vm_decimal.specs.SampleText.{number_reading, valued}
+use Rattle.vm_decimal.specs.SampleReading.{number_reading, valued}
 use Rattle.vm_decimal.specs.Spelled.{IsDigits, IsSign}
 use Rattle.vm_decimal.proofs.Exacts.{quick_dec_is}
 use Rattle.vm_decimal.proofs.NumberReadings.{number_reading-number}

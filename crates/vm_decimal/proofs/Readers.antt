@@ -7,7 +7,7 @@ use Rattle.vm_base.specs.Run.{run}
 use Rattle.vm_base.proofs.RunLaws.{run-append, reading-stuck, reading-end}
 use Rattle.vm_decimal.specs.NumberMachine.{symbol_of, next, may_end, State, taken, step, final, start, spelled}
 use Rattle.vm_decimal.specs.Reader.{Stands}
-use Rattle.vm_decimal.specs.SampleText.{number_reading}
+use Rattle.vm_decimal.specs.SampleReading.{number_reading}
 use Rattle.vm_decimal.specs.declared.number_machine.Phase.{Phase}
 use Rattle.vm_decimal.specs.declared.number_machine.Phase.TheVariants.{Start}
 use Rattle.vm_decimal.specs.declared.reader.Reader.{Reader}

@@ -3,6 +3,7 @@ use Rattle.std.specs.Prelude.{◌≡◌, ◌↔◌, ℕ, ◌≤◌, ℤ, Bool, t
 use Rattle.std.specs.Char.{to_ascii_lowercase}
 use Rattle.std.specs.Str.{str_to_ascii_lowercase}
 use Rattle.std.proofs.Common.{refl, arith, ap, subst, inl, inr, ⊎_elim}
+use Rattle.std.proofs.Math.Path.{fun_ext}
 use Rattle.std.proofs.lemmas.Bool.Decides.{nat_tests}
 use Rattle.vm_base.specs.FirstWrong.{FirstWrong}
 use Rattle.vm_base.specs.Run.{reading, behind_one}
@@ -10,8 +11,10 @@ use Rattle.vm_base.proofs.RunLaws.{FirstWrong-either, one_place, none_wrong}
 use Rattle.vm_decimal.specs.Spelled.{Spelled, IsNumber, IsAnyNumber}
 use Rattle.vm_decimal.specs.NumberMachine.{symbol_of, step, final}
 use Rattle.vm_decimal.specs.Rounded.{sample_value}
-use Rattle.vm_decimal.specs.SampleText.{IsSampleText, SaysValue, IsTooWide, number_reading, valued, value_reading, no_number_reading, sample_reading}
-use Rattle.vm_decimal.specs.Words.{IsNoNumber, no_numbers, wrong_among}
+use Rattle.vm_decimal.specs.SampleText.{IsSampleText, Says, IsReader}
+use Rattle.vm_decimal.specs.SampleReading.{number_reading, valued, value_reading, no_number_reading, sample_reading}
+use Rattle.vm_decimal.specs.Words.{IsNoNumber, no_numbers}
+use Rattle.vm_decimal.specs.WordPlaces.{wrong_among}
 use Rattle.vm_decimal.specs.declared.number_machine.Symbol.TheVariants.{Sign, Other}
 use Rattle.vm_decimal.specs.declared.sample_text.SampleText.{SampleText}
 use Rattle.vm_decimal.specs.declared.sample_text.SampleText.TheVariants.{Value, NoNumber}
@@ -92,14 +95,6 @@ apart text spelled is none =
     let not_read = (no_number_read text none).1 in
     cc (read, not_read)
 
--- what the grammar says of each answer
-
-abbrev pub Says : List ℕ → Result SampleText NumFault → Type 0
-Says text (Ok (Value z)) = SaysValue text z
-Says text (Ok NoNumber) = IsNoNumber text
-Says text (Err TooWide) = IsTooWide text
-Says text (Err (NotANumber at)) = FirstWrong IsSampleText text at
-
 -- what is computed is what the grammar says
 pub says : (text : List ℕ) → Says text (sample_reading text)
 unfolding sample_reading
@@ -166,3 +161,7 @@ answers text answer = (
   λ is. subst (Says text) is (says text),
   λ is. one_reading text (sample_reading text) answer (says text) is,
 )
+
+-- there is one reader
+pub one_reader : (f : List ℕ → Result SampleText NumFault) → IsReader f → f ≡ sample_reading
+one_reader f is = fun_ext (λ text. one_reading text (f text) (sample_reading text) (is text) (says text))

@@ -10,7 +10,8 @@ use Rattle.vm_base.specs.Run.{run}
 use Rattle.vm_base.proofs.RunLaws.{none_wrong}
 use Rattle.vm_decimal.specs.Spelled.{Spelled, IsNumber}
 use Rattle.vm_decimal.specs.NumberMachine.{symbol_of, next, State, step, final, start}
-use Rattle.vm_decimal.specs.SampleText.{IsSampleText, sample_reading}
+use Rattle.vm_decimal.specs.SampleText.{IsSampleText}
+use Rattle.vm_decimal.specs.SampleReading.{sample_reading}
 use Rattle.vm_decimal.specs.Words.{IsOneOf, no_numbers}
 use Rattle.vm_decimal.specs.declared.number_machine.Phase.{Phase}
 use Rattle.vm_decimal.specs.declared.number_machine.Phase.TheVariants.{Start, Signed, Whole, Bare, Fraction, Marked, MarkSigned, Power}

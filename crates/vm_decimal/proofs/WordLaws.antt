@@ -8,7 +8,8 @@ use Rattle.std.proofs.Math.Nat.{max-zero}
 use Rattle.std.proofs.lemmas.Bool.Decides.{nat_tests}
 use Rattle.vm_base.specs.FirstWrong.{Begins, FirstWrong}
 use Rattle.vm_base.proofs.RunLaws.{FirstWrong-append, FirstWrong-either, FirstWrong-same, none_wrong}
-use Rattle.vm_decimal.specs.Words.{IsOneOf, IsNoNumber, no_numbers, common, wrong_word, wrong_among}
+use Rattle.vm_decimal.specs.Words.{IsOneOf, IsNoNumber, no_numbers}
+use Rattle.vm_decimal.specs.WordPlaces.{common, wrong_word, wrong_among}
 
 pub common-nil : (word : List ℕ) → common word [] ≡ 0
 common-nil [] = refl

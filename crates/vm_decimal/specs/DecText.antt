@@ -3,7 +3,7 @@ use Rattle.std.specs.Prelude.{◌≡◌, ℕ, ℤ, List, Option, Some, None, Res
 use Rattle.vm_base.specs.Number.{signed}
 use Rattle.vm_decimal.specs.Dec.{dec_of}
 use Rattle.vm_decimal.specs.Spelled.{Spelled, IsNumber}
-use Rattle.vm_decimal.specs.SampleText.{number_reading}
+use Rattle.vm_decimal.specs.SampleReading.{number_reading}
 use Rattle.vm_decimal.specs.declared.sample_text.NumFault.{NumFault}
 use Rattle.vm_decimal.specs.declared.sample_text.NumFault.TheVariants.{NotANumber, TooWide}
 

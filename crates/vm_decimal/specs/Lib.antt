@@ -11,6 +11,8 @@ pub mod Parts
 pub mod Quick
 pub mod Reader
 pub mod Rounded
+pub mod SampleReading
 pub mod SampleText
 pub mod Spelled
+pub mod WordPlaces
 pub mod Words

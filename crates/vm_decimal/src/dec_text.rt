@@ -8,7 +8,7 @@ ghost use Rattle.vm_decimal.specs.DecText.{SaysNumber, IsBeyond, dec_value, dec_
 ghost use Rattle.vm_decimal.specs.NumberMachine.{State, spelled};
 ghost use Rattle.vm_decimal.specs.Reader.{Stands};
 ghost use Rattle.vm_decimal.specs.NumberText.{number_text};
-ghost use Rattle.vm_decimal.specs.SampleText.{number_reading};
+ghost use Rattle.vm_decimal.specs.SampleReading.{number_reading};
 ghost use Rattle.vm_decimal.specs.Spelled.{Spelled, IsAnyNumber};
 
 use crate::dec::{Dec, placed};

@@ -3,7 +3,7 @@ ghost use Rattle.std.specs.Prelude.{◌≡◌, ℕ, ◌+◌, ◌*◌, ◌<◌, �
 ghost use Rattle.vm_decimal.specs.Exact.{IsExact};
 ghost use Rattle.vm_decimal.specs.NumberMachine.{State, taken};
 ghost use Rattle.vm_decimal.specs.Reader.{IsSmall};
-ghost use Rattle.vm_decimal.specs.SampleText.{number_reading};
+ghost use Rattle.vm_decimal.specs.SampleReading.{number_reading};
 ghost use Rattle.vm_decimal.specs.Spelled.{Spelled};
 
 use crate::number_machine::{Phase, Symbol, next, symbol_of};

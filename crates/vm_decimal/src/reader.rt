@@ -4,7 +4,7 @@ ghost use Rattle.vm_base.specs.Number.{signed};
 ghost use Rattle.vm_decimal.specs.NumberMachine.{State, taken, step as step_of, spelled};
 ghost use Rattle.vm_decimal.specs.Reader.{Stands, Counts, IsSmall, IsCapped, Steps, Reached};
 ghost use Rattle.vm_decimal.specs.Rounded.{sample_value, sample_of_digits};
-ghost use Rattle.vm_decimal.specs.SampleText.{number_reading};
+ghost use Rattle.vm_decimal.specs.SampleReading.{number_reading};
 
 use crate::leading::{Leading, rounding, with_digit};
 use crate::number_machine::{Phase, Symbol, may_end, next, symbol_of};

@@ -1,8 +1,10 @@
 //! What the text of a sample's value says.
 ghost use Rattle.std.specs.Prelude.{◌≡◌, ◌↔◌, ℕ, ℤ};
 ghost use Rattle.vm_base.specs.FirstWrong.{FirstWrong};
-ghost use Rattle.vm_decimal.specs.SampleText.{IsSampleText, SaysValue, IsTooWide, sample_reading, number_reading, valued, value_reading, no_number_reading};
-ghost use Rattle.vm_decimal.specs.Words.{IsNoNumber, no_numbers, wrong_among};
+ghost use Rattle.vm_decimal.specs.SampleText.{IsSampleText, SaysValue, IsTooWide};
+ghost use Rattle.vm_decimal.specs.SampleReading.{sample_reading, number_reading, valued, value_reading, no_number_reading};
+ghost use Rattle.vm_decimal.specs.Words.{IsNoNumber, no_numbers};
+ghost use Rattle.vm_decimal.specs.WordPlaces.{wrong_among};
 
 use crate::quick::quick_value;
 use crate::reader::{scan, value};

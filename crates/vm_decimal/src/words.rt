@@ -1,6 +1,7 @@
 //! The texts that say that there is no number.
 ghost use Rattle.std.specs.Prelude.{◌≡◌, ◌≤◌, length};
-ghost use Rattle.vm_decimal.specs.Words.{common as common_front, wrong_word, wrong_among, no_numbers};
+ghost use Rattle.vm_decimal.specs.Words.{no_numbers};
+ghost use Rattle.vm_decimal.specs.WordPlaces.{common as common_front, wrong_word, wrong_among};
 
 /// Where the text leaves `nan`, `inf` and `infinity`, in any case and the last two with an optional
 /// sign: the last place at which it leaves one of them, none where it is one.

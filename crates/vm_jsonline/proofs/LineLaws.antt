@@ -3,6 +3,8 @@ use Rattle.std.proofs.Common.{◌≡◌, ℕ, ◌<◌, ◌≤◌, Bool, true, fa
 use Rattle.std.specs.Prelude.{◌==◌, option_and_then, codes}
 use Rattle.std.proofs.lemmas.Bool.{cases_lt}
 use Rattle.std.proofs.lemmas.Bool.Decides.{nat_tests}
+use Rattle.vm_decimal.specs.SampleReading.{sample_reading}
+use Rattle.vm_decimal.proofs.SampleReadings.{says, one_reader}
 use Rattle.vm_json.specs.Grammar.{is_space, Json, Fields, Spaces, no_space, a_space, Value, a_null, a_true, a_false, a_number, a_string, an_array, an_object, an_item, Spells, spells}
 use Rattle.vm_json.specs.Machine.{wrong_place}
 use Rattle.vm_json.proofs.Texts.{json_there, place_there, none_there, some_there}
@@ -55,7 +57,7 @@ bind f g _ _ (found {text = text} {x = x} says) same = same text x says
 
 -- ---- rows
 
-parts_same : (parts : List Part) (fs : Fields) → PartsSay parts fs → parts_rows parts ≡ member_rows (members_of fs)
+parts_same : (parts : List Part) (fs : Fields) → PartsSay parts fs → parts_rows parts ≡ member_rows sample_reading (members_of fs)
 unfolding parts_rows
 parts_same parts fs say =
     bind _ _ _ _ (only_match (codes "metric") parts fs say) (λ metric m is_metric.
@@ -63,7 +65,7 @@ parts_same parts fs say =
     bind _ _ _ _ (only_match (codes "timestamps") parts fs say) (λ stamps t is_stamps.
     rw (pairs_are is_metric.value, samples_are is_values.value, times_are is_stamps.value) refl)))
 
-rows_are : {n : ℕ} {text rest : List ℕ} {x : Json} → Value n text rest x → rows_reading text ≡ rows_in x
+rows_are : {n : ℕ} {text rest : List ℕ} {x : Json} → Value n text rest x → rows_reading text ≡ rows_in sample_reading x
 unfolding rows_reading
 rows_are a_null = refl
 rows_are a_true = refl
@@ -78,7 +80,7 @@ rows_are (an_object {text = text} {fs = fs} few ms) = parts_same (all_members te
 some_there_is : (text : List ℕ) → (s : Starts text) → (length text == 0) ≡ false
 some_there_is text s = ap (λ t. length t == 0) s.parts ∙ grind (arith, nat_tests)
 
-pub line_said : (line : List ℕ) (x : Json) → Spells line x → short_reading line ≡ outcome x
+pub line_said : (line : List ℕ) (x : Json) → Spells line x → short_reading line ≡ outcome sample_reading x
 unfolding short_reading is_paired
 line_said line x (spells {behind = behind} (an_item {start = start} spaces value) end) =
     let s = value_starts value in
@@ -126,7 +128,7 @@ short_mean line few = go (length (behind_spaces line) == 0) refl
         (broken few (λ blank. zero_not (length (behind_spaces line)) some (blank_to line blank)) at (place_there line at is))
     placed None is some =
         let there = json_there line is in
-        subst (IsReading line) (sym (line_said line there.0 there.1)) (written few there.0 there.1)
+        subst (IsReading line) (sym (line_said line there.0 there.1)) (written few there.0 there.1 sample_reading says)
 
     go : (t : Bool) → (length (behind_spaces line) == 0) ≡ t → IsReading line (short_reading line)
     go true none =
@@ -162,4 +164,5 @@ one_reading line _ (broken few not_blank at first) =
     go : (t : Bool) → (length (behind_spaces line) == 0) ≡ t → (length (behind_spaces line) == 0) ≡ false
     go true none = absurd (not_blank (blank_from line (zero_from (length (behind_spaces line)) none)))
     go false some = some
-one_reading line _ (written few x is) = sym (short_is line few ∙ line_said line x is)
+one_reading line _ (written few x is read reads) =
+    ap (λ f. outcome f x) (one_reader read reads) ∙ sym (short_is line few ∙ line_said line x is)

@@ -6,7 +6,7 @@ use Rattle.std.specs.Int.{is_in_range}
 use Rattle.std.specs.List.{prefix_len}
 use Rattle.std.proofs.Math.Seq.{take-append_seam}
 use Rattle.std.proofs.lemmas.Bool.Decides.{nat_tests}
-use Rattle.vm_decimal.specs.SampleText.{sample_reading}
+use Rattle.vm_decimal.specs.SampleReading.{sample_reading}
 use Rattle.vm_json.specs.Grammar.{nought, whole, IsNumber, positive, negative, Chars, Piece, Json, Jsons, Fields, Value, a_null, a_true, a_false, a_number, a_string, an_array, an_object}
 use Rattle.vm_jsonline.specs.Parts.{Part}
 use Rattle.vm_jsonline.specs.Reading.{is_number_byte, number_at, text_at, pair_at, begins_number, sample_at, time_at, inside, all_items, all_members, pairs_reading, samples_reading, times_reading}
@@ -84,7 +84,7 @@ string_sample : (text : List ℕ) (o : Option (List ℕ)) → text_at (34 ∷ te
 unfolding sample_at
 string_sample text o is = ap (option_and_then (λ t. no_value (sample_reading t))) is
 
-pub sample_is : {n : ℕ} {text rest : List ℕ} {x : Json} → Value n text rest x → IsCut rest → sample_at text ≡ sample_of x
+pub sample_is : {n : ℕ} {text rest : List ℕ} {x : Json} → Value n text rest x → IsCut rest → sample_at text ≡ sample_of sample_reading x
 sample_is (a_null {rest = rest}) cut = plain_sample (117 ∷ 108 ∷ 108 ∷ rest)
 sample_is (a_true {rest = rest}) cut = no_sample 116 (114 ∷ 117 ∷ 101 ∷ rest) refl refl refl
 sample_is (a_false {rest = rest}) cut = no_sample 102 (97 ∷ 108 ∷ 115 ∷ 101 ∷ rest) refl refl refl
@@ -164,14 +164,14 @@ pairs_are (a_string chars) = refl
 pairs_are (an_array few xs) = refl
 pairs_are (an_object {text = text} {fs = fs} few ms) = pairs_same (all_members text) fs (all_members_say ms)
 
-pub samples_are : {n : ℕ} {text rest : List ℕ} {x : Json} → Value n text rest x → samples_reading text ≡ samples_of x
+pub samples_are : {n : ℕ} {text rest : List ℕ} {x : Json} → Value n text rest x → samples_reading text ≡ samples_of sample_reading x
 unfolding samples_reading
 samples_are a_null = refl
 samples_are a_true = refl
 samples_are a_false = refl
 samples_are (a_number {rest = rest} digits is) = ap (option_and_then (λ inner. all_of sample_at (all_items inner))) (number_no_bracket 91 digits rest (omega arith) is)
 samples_are (a_string chars) = refl
-samples_are (an_array {text = text} {xs = xs} few is) = all_same sample_at sample_of (λ t x says. sample_is says.value says.cut) (all_items text) xs (all_items_say is)
+samples_are (an_array {text = text} {xs = xs} few is) = all_same sample_at (sample_of sample_reading) (λ t x says. sample_is says.value says.cut) (all_items text) xs (all_items_say is)
 samples_are (an_object few fs) = refl
 
 pub times_are : {n : ℕ} {text rest : List ℕ} {x : Json} → Value n text rest x → times_reading text ≡ times_of x

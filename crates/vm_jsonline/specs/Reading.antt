@@ -2,7 +2,7 @@
 use Rattle.std.specs.Prelude.{ℕ, ◌==◌, ◌||◌, nat_lt, Bool, ℤ, List, [], ◌∷◌, length, take, drop, slice_index, Option, Some, None, option_map, option_and_then, codes, if◌then◌else◌}
 use Rattle.std.specs.Char.{is_ascii_digit}
 use Rattle.std.specs.List.{prefix_len}
-use Rattle.vm_decimal.specs.SampleText.{sample_reading}
+use Rattle.vm_decimal.specs.SampleReading.{sample_reading}
 use Rattle.vm_json.specs.Machine.{wrong_place}
 use Rattle.vm_labels.specs.Labels.{built}
 use Rattle.vm_labels.specs.declared.pair.Pair.{Pair}

@@ -7,7 +7,6 @@ use Rattle.std.specs.Str.Parse.{digits_value}
 use Rattle.vm_decimal.specs.declared.sample_text.NumFault.{NumFault}
 use Rattle.vm_decimal.specs.declared.sample_text.SampleText.{SampleText}
 use Rattle.vm_decimal.specs.declared.sample_text.SampleText.TheVariants.{Value, NoNumber}
-use Rattle.vm_decimal.specs.SampleText.{sample_reading}
 use Rattle.vm_json.specs.Grammar.{Piece, Json, null, boolean, number, string, array, object, Jsons, no_json, one_json, Fields, no_field, one_field}
 use Rattle.vm_labels.specs.Labels.{built, limit_of}
 use Rattle.vm_labels.specs.declared.fault.LabelFault.{LabelFault}
@@ -92,17 +91,19 @@ abbrev pub no_value : Result SampleText NumFault → Option (Option ℤ)
 no_value (Ok NoNumber) = Some None
 no_value _ = None
 
+-- Below, `read` reads the text of a value.
+
 -- what an item says: its value, or that there is none
-abbrev pub sample_of : Json → Option (Option ℤ)
-sample_of null = Some None
-sample_of (number digits) = value_of (sample_reading digits)
-sample_of (string ps) = option_and_then (λ text. no_value (sample_reading text)) (text_of ps)
-sample_of _ = None
+abbrev pub sample_of : (List ℕ → Result SampleText NumFault) → Json → Option (Option ℤ)
+sample_of read null = Some None
+sample_of read (number digits) = value_of (read digits)
+sample_of read (string ps) = option_and_then (λ text. no_value (read text)) (text_of ps)
+sample_of read _ = None
 
 -- what the items of an array say
-abbrev pub samples_of : Json → Option (List (Option ℤ))
-samples_of (array xs) = all_of sample_of (items_of xs)
-samples_of _ = None
+abbrev pub samples_of : (List ℕ → Result SampleText NumFault) → Json → Option (List (Option ℤ))
+samples_of read (array xs) = all_of (sample_of read) (items_of xs)
+samples_of read _ = None
 
 -- a time that is at most 2^48 - 1
 abbrev pub small_time : ℕ → Option ℕ
@@ -141,21 +142,21 @@ abbrev pub ◌>>=◌ : {A B : Type 0} → Option A → (A → Option B) → Opti
 o >>= f = option_and_then f o
 
 -- the rows of a line's members
-abbrev pub member_rows : List Member → Option (List Row)
-member_rows ms = do
+abbrev pub member_rows : (List ℕ → Result SampleText NumFault) → List Member → Option (List Row)
+member_rows read ms = do
   metric ← once (values_at (codes "metric") ms)
   values ← once (values_at (codes "values") ms)
   timestamps ← once (values_at (codes "timestamps") ms)
   pairs ← pairs_of metric
-  samples ← samples_of values
+  samples ← samples_of read values
   times ← times_of timestamps
   labels ← kept (built pairs)
   series_rows samples times labels
 
 -- the rows of an object
-abbrev pub rows_in : Json → Option (List Row)
-rows_in (object fs) = member_rows (members_of fs)
-rows_in _ = None
+abbrev pub rows_in : (List ℕ → Result SampleText NumFault) → Json → Option (List Row)
+rows_in read (object fs) = member_rows read (members_of fs)
+rows_in read _ = None
 
 -- ---- the whole line
 
@@ -185,5 +186,5 @@ or_skipped None = Skipped 0
 or_skipped (Some rows) = Rows rows
 
 -- what a line comes to whose JSON is known: its rows, or skipped at 0
-abbrev pub outcome : Json → JsonLine
-outcome x = or_skipped (if has_texts x then rows_in x else None)
+abbrev pub outcome : (List ℕ → Result SampleText NumFault) → Json → JsonLine
+outcome read x = or_skipped (if has_texts x then rows_in read x else None)

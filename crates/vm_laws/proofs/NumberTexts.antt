@@ -12,7 +12,7 @@ use Rattle.vm_base.specs.Number.{form_of}
 use Rattle.vm_base.specs.Sample.{is_sample}
 use Rattle.vm_base.proofs.SampleLaws.{IsSampleForm-form_of}
 use Rattle.vm_decimal.specs.NumberText.{noughts, plain, power, fraction, scientific, size_text, sign, number_text}
-use Rattle.vm_decimal.specs.SampleText.{sample_reading}
+use Rattle.vm_decimal.specs.SampleReading.{sample_reading}
 use Rattle.vm_laws.proofs.PrintedSamples.{sample_printed}
 use Rattle.vm_decimal.proofs.PrintedTexts.{drop_digits, take_digits, append_digits, noughts_digits}
 use Rattle.vm_json.specs.Grammar.{IsDigits, IsWhole, nought, whole, IsFraction, no_fraction, fraction as a_fraction, is_sign, IsExponent, no_exponent, signed_exponent, IsNumber, positive, negative}

@@ -11,6 +11,8 @@ use Rattle.std.proofs.lemmas.List.{length-map}
 use Rattle.std.proofs.lemmas.Str.{IsUtf8-from_ascii}
 use Rattle.json.specs.Print.{escape}
 use Rattle.vm_base.specs.declared.stamped.Stamped.{Stamped}
+use Rattle.vm_decimal.specs.SampleReading.{sample_reading}
+use Rattle.vm_decimal.proofs.SampleReadings.{says}
 use Rattle.vm_json.specs.Grammar.{is_plain, IsDigits, nought, whole, IsNumber, bytes, Chars, last_quote, plain, Json, number, string, array, object, Jsons, no_json, one_json, Fields, no_field, one_field, no_space, a_number, a_string, an_array, an_object, an_item, Items, no_items, some_items, ItemList, item_list, no_more_items, more_items, Member, a_member, Members, no_members, some_members, MemberList, member_list, no_more_members, more_members, Spells, spells}
 use Rattle.vm_labels.specs.Labels.{IsLabels, has_value, is_badly_named, built, ordered, unless}
 use Rattle.vm_labels.specs.Name.{begins_name, is_name_byte, is_name}
@@ -168,7 +170,7 @@ times_numbers : (ss : List Stamped) → AllByRecursion (λ s. s.time < 2 ^ 48) s
 times_numbers [] all = tt
 times_numbers (s ∷ ss) all = (time_number s.time all.0, times_numbers ss all.1)
 
-values_again : (ss : List Stamped) → AllByRecursion IsOfSample ss → all_of sample_of (items_of (numbers (map value_text ss))) ≡ Some (map some_value ss)
+values_again : (ss : List Stamped) → AllByRecursion IsOfSample ss → all_of (sample_of sample_reading) (items_of (numbers (map value_text ss))) ≡ Some (map some_value ss)
 values_again [] all = refl
 values_again (s ∷ ss) all = rw (value_again s.value all.0, values_again ss all.1) refl
 
@@ -234,7 +236,8 @@ line_spells labels ss can texts =
     (no_more_members no_space)))))))))
     no_space)
 
-line_outcome : (labels : List Pair) (ss : List Stamped) (can : CanBeRead labels ss) (texts : AllByRecursion IsText labels) → outcome (tree labels texts ss) ≡ rows_again labels ss
+line_outcome : (labels : List Pair) (ss : List Stamped) (can : CanBeRead labels ss) (texts : AllByRecursion IsText labels) 
+    → outcome sample_reading (tree labels texts ss) ≡ rows_again labels ss
 line_outcome labels ss can texts =
     rw (
       whole_fields labels texts,
@@ -251,5 +254,6 @@ line_outcome labels ss can texts =
 pub read_again : (labels : List Pair) (ss : List Stamped) → CanBeRead labels ss → reading (series_text labels ss) ≡ rows_again labels ss
 read_again labels ss can =
     let texts = texts_of labels can.label_set.named can.texts in
-    sym (one_reading (series_text labels ss) (outcome (tree labels texts ss)) (written can.short (tree labels texts ss) (line_spells labels ss can texts)))
+    sym (one_reading (series_text labels ss) (outcome sample_reading (tree labels texts ss))
+    (written can.short (tree labels texts ss) (line_spells labels ss can texts) sample_reading says))
     ∙ line_outcome labels ss can texts

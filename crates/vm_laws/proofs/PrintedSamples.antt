@@ -15,7 +15,7 @@ use Rattle.vm_base.proofs.RoundingLaws.{IsNearest-whole, IsNearest-one, nearest-
 use Rattle.vm_base.proofs.SampleLaws.{IsSampleForm-form_of, sample_of-placed, sample_of-zero}
 use Rattle.vm_decimal.specs.NumberText.{size_text, sign, number_text}
 use Rattle.vm_decimal.specs.Rounded.{surplus_within, surplus, sample_value}
-use Rattle.vm_decimal.specs.SampleText.{valued, value_reading, sample_reading}
+use Rattle.vm_decimal.specs.SampleReading.{valued, value_reading, sample_reading}
 use Rattle.vm_decimal.specs.Spelled.{Spelled, IsNumber}
 use Rattle.vm_decimal.specs.declared.sample_text.SampleText.TheVariants.{Value}
 use Rattle.vm_decimal.proofs.Decs.{noughts_add}

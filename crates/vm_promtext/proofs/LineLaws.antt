@@ -5,6 +5,9 @@ use Rattle.std.proofs.lemmas.Bool.{eqb-true}
 use Rattle.std.proofs.lemmas.Bool.Decides.{nat_tests}
 use Rattle.vm_base.specs.FirstWrong.{FirstWrong}
 use Rattle.vm_base.proofs.RunLaws.{none_wrong, one_place}
+use Rattle.vm_decimal.specs.SampleReading.{sample_reading}
+use Rattle.vm_decimal.specs.SampleText.{Says}
+use Rattle.vm_decimal.proofs.SampleReadings.{says, one_reading as one_value}
 use Rattle.vm_decimal.specs.declared.sample_text.NumFault.{NumFault}
 use Rattle.vm_decimal.specs.declared.sample_text.SampleText.{SampleText}
 use Rattle.vm_labels.specs.Labels.{built}
@@ -80,7 +83,8 @@ row_leads P line = spaced_leads (OfRow P) (row_not_blank P) line
 -- what the reading of a line says
 pub data LineSays (now : ℕ) (line : List ℕ) : Result Line ℕ → Type 0 where
   says_nothing : SaysNothing line → LineSays now line (Ok Nothing)
-  says_row : (parts : Written) → Writes line parts → LineSays now line (Ok (outcome now line parts))
+  says_row : (parts : Written) → Writes line parts
+      → LineSays now line (Ok (outcome now line parts (sample_reading parts.value)))
   says_wrong : (left : ℕ) → FirstWrong IsLine line (length line - left) → LineSays now line (Err left)
 
 row_says : (now : ℕ) (line : List ℕ) → Rows line → LineSays now line (row_reading now line (behind_blanks line))
@@ -90,7 +94,7 @@ row_says now line rows = subst (LineSays now line) (sym (row_is now line (behind
     go (Ok read) is =
         let row = row_read (λ other. other ≡ read.1) (behind_blanks line) read is in
         let writes : Writes line read.1 = leads_in (row_leads (λ other. other ≡ read.1) line) (row.into refl) in
-        let same : said now line read ≡ outcome now line read.1 =
+        let same : said now line read ≡ outcome now line read.1 (sample_reading read.1.value) =
         ap (λ number. with_value number (length line - read.1.value_left) (length line - read.1.time_left) (time_of now read.1.digits) (kept (built read.1.pairs))) row.number in
         subst (λ l. LineSays now line (Ok l)) (sym same) (says_row read.1 writes)
     go (Err left) is =
@@ -116,7 +120,7 @@ reading_is now line = go (nat_lt 4194304 (length line)) refl
   where
     short : (r : Result Line ℕ) → length line ≤ 4194304 → LineSays now line r → IsReading now line (or_skipped (length line) r)
     short (Ok l) few (says_nothing is) = nothing few is
-    short (Ok l) few (says_row parts writes) = written few parts writes
+    short (Ok l) few (says_row parts writes) = written few parts writes (sample_reading parts.value) (says parts.value)
     short (Err left) few (says_wrong n first) = broken few (length line - left) first
 
     go : (b : Bool) → nat_lt 4194304 (length line) ≡ b → IsReading now line (cond b (Skipped 4194304) (or_skipped (length line) (line_reading now line)))
@@ -212,13 +216,16 @@ one_reading now line l is = go l is
     of_broken (Ok l) at first (says_row parts writes) = absurd (none_wrong IsLine line at (inr (any_row (λ other. other ≡ parts) line writes)) first)
     of_broken (Err left) at first (says_wrong n other) = ap Skipped (one_place IsLine line at (length line - left) first other)
 
-    of_written : (r : Result Line ℕ) (parts : Written) → Writes line parts → LineSays now line r → outcome now line parts ≡ or_skipped (length line) r
+    of_written : (r : Result Line ℕ) (parts : Written) → Writes line parts → LineSays now line r
+        → outcome now line parts (sample_reading parts.value) ≡ or_skipped (length line) r
     of_written (Ok l) parts writes (says_nothing other) = absurd (apart_lines (λ w. w ≡ parts) line other writes)
-    of_written (Ok l) parts writes (says_row others other) = ap (outcome now line) (one_written line parts others writes other)
+    of_written (Ok l) parts writes (says_row others other) = ap (λ w. outcome now line w (sample_reading w.value)) (one_written line parts others writes other)
     of_written (Err left) parts writes (says_wrong n first) = absurd (none_wrong IsLine line (length line - left) (inr (any_row (λ w. w ≡ parts) line writes)) first)
 
     go : (l : Line) → IsReading now line l → l ≡ reading now line
     go l (too_long many) = sym (long_is many)
     go l (nothing few is) = of_nothing (line_reading now line) is (line_says now line) ∙ sym (short_is few)
     go l (broken few at first) = of_broken (line_reading now line) at first (line_says now line) ∙ sym (short_is few)
-    go l (written few parts writes) = of_written (line_reading now line) parts writes (line_says now line) ∙ sym (short_is few)
+    go l (written few parts writes number says_number) =
+        ap (outcome now line parts) (one_value parts.value number (sample_reading parts.value) says_number (says parts.value))
+        ∙ of_written (line_reading now line) parts writes (line_says now line) ∙ sym (short_is few)

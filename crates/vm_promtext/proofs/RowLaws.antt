@@ -1,7 +1,7 @@
 -- A row, read from its name to its end.
 use Rattle.std.proofs.Common.{◌≡◌, ◌⊎◌, inl, inr, ⊎_elim, ℕ, ◌+◌, ◌-◌, List, [], ◌∷◌, length, take, drop, Result, Ok, Err, refl, ap, sym, subst, ◌∙◌, length-append}
 use Rattle.std.proofs.lemmas.List.{take-append-drop}
-use Rattle.vm_decimal.specs.SampleText.{sample_reading}
+use Rattle.vm_decimal.specs.SampleReading.{sample_reading}
 use Rattle.vm_decimal.specs.declared.sample_text.NumFault.{NumFault}
 use Rattle.vm_decimal.specs.declared.sample_text.NumFault.TheVariants.{NotANumber, TooWide}
 use Rattle.vm_decimal.specs.declared.sample_text.SampleText.{SampleText}

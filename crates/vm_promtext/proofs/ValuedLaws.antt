@@ -7,12 +7,14 @@ use Rattle.std.proofs.lemmas.Bool.{eqb-true, and_parts, cases_lt}
 use Rattle.std.proofs.lemmas.Bool.Decides.{nat_tests}
 use Rattle.std.proofs.lemmas.List.{take-append-drop, take-append-le}
 use Rattle.vm_base.specs.FirstWrong.{Begins, FirstWrong}
-use Rattle.vm_decimal.specs.SampleText.{IsSampleText, sample_reading}
+use Rattle.vm_decimal.specs.SampleText.{IsSampleText}
+use Rattle.vm_decimal.specs.SampleReading.{sample_reading}
 use Rattle.vm_decimal.specs.declared.sample_text.NumFault.{NumFault}
 use Rattle.vm_decimal.specs.declared.sample_text.NumFault.TheVariants.{NotANumber, TooWide}
 use Rattle.vm_decimal.specs.declared.sample_text.SampleText.{SampleText}
 use Rattle.vm_decimal.specs.declared.sample_text.SampleText.TheVariants.{Value, NoNumber}
-use Rattle.vm_decimal.proofs.SampleReadings.{Says, says}
+use Rattle.vm_decimal.proofs.SampleReadings.{says}
+use Rattle.vm_decimal.specs.SampleText.{Says}
 use Rattle.vm_decimal.proofs.SampleTexts.{HasNoBlank, no_blank, no_blank_begins, not_empty}
 use Rattle.vm_base.proofs.RunLaws.{none_wrong}
 use Rattle.vm_promtext.specs.Grammar.{is_blank, Valued}

@@ -1,12 +1,14 @@
 -- What a line means, in the words of the grammar.
-use Rattle.std.specs.Prelude.{ℕ, ◌<◌, ◌≤◌, List, [], ◌∷◌, length, Option, Some, None}
+use Rattle.std.specs.Prelude.{◌≡◌, ℕ, ◌<◌, ◌≤◌, List, [], ◌∷◌, length, Option, Some, None, Result}
 use Rattle.vm_base.specs.FirstWrong.{FirstWrong}
+use Rattle.vm_decimal.specs.SampleText.{Says}
+use Rattle.vm_decimal.specs.declared.sample_text.NumFault.{NumFault}
+use Rattle.vm_decimal.specs.declared.sample_text.SampleText.{SampleText}
 use Rattle.vm_labels.specs.declared.row.Row.{Row as RowOf}
 use Rattle.vm_promtext.specs.Grammar.{Written, Writes, SaysNothing, IsLine}
 use Rattle.vm_promtext.specs.Outcome.{outcome}
 use Rattle.vm_promtext.specs.declared.line.Line.{Line}
 use Rattle.vm_promtext.specs.declared.line.Line.TheVariants.{Nothing, Row, NoNumber, Skipped}
-use Rattle.vm_promtext.specs.Reading.{reading}
 
 -- What a line means that is read at the time `now`. A line of more than 4,194,304 bytes is skipped.
 pub data IsReading (now : ℕ) (line : List ℕ) : Line → Type 0 where
@@ -15,7 +17,8 @@ pub data IsReading (now : ℕ) (line : List ℕ) : Line → Type 0 where
   broken : length line ≤ 4194304 → (at : ℕ) → FirstWrong IsLine line at
       → IsReading now line (Skipped at)
   written : length line ≤ 4194304 → (parts : Written) → Writes line parts
-      → IsReading now line (outcome now line parts)
+      → (said : Result SampleText NumFault) → Says parts.value said
+      → IsReading now line (outcome now line parts said)
 
 -- the rows of what a line means, none where it is skipped
 abbrev pub rows_of : Line → Option (List RowOf)
@@ -24,6 +27,6 @@ rows_of (Row row) = Some (row ∷ [])
 rows_of NoNumber = Some []
 rows_of (Skipped at) = None
 
--- the rows of a line that is read at the time `now`, none where it is skipped
-abbrev pub rows_of_line : ℕ → List ℕ → Option (List RowOf)
-rows_of_line now line = rows_of (reading now line)
+-- the line means these rows where it is read at the time `now`, or is skipped
+abbrev pub MeansRows : ℕ → List ℕ → Option (List RowOf) → Type 0
+MeansRows now line rows = (said : Line) × IsReading now line said × (rows ≡ rows_of said)

@@ -5,7 +5,6 @@ use Rattle.vm_decimal.specs.declared.sample_text.NumFault.{NumFault}
 use Rattle.vm_decimal.specs.declared.sample_text.SampleText.{SampleText}
 use Rattle.vm_decimal.specs.declared.sample_text.SampleText.TheVariants.{Value}
 use Rattle.vm_decimal.specs.declared.sample_text.SampleText.TheVariants as values
-use Rattle.vm_decimal.specs.SampleText.{sample_reading}
 use Rattle.vm_labels.specs.Labels.{built, limit_of}
 use Rattle.vm_labels.specs.declared.fault.LabelFault.{LabelFault}
 use Rattle.vm_labels.specs.declared.fault.LimitFault.{LimitFault}
@@ -49,8 +48,9 @@ with_value (Ok value) value_at time_at time labels = with_time value time_at tim
 
 -- What a line comes to that is read at the time `now` and writes these parts: skipped at its
 -- value's first byte where that is out of range, else at its time's where that is, else at 0 where
--- its labels make no label set or one that breaks a limit, and else its row.
-abbrev pub outcome : ℕ → List ℕ → Written → Line
-outcome now line written =
-    with_value (sample_reading written.value) (length line - written.value_left)
+-- its labels make no label set or one that breaks a limit, and else its row. `said` is what the
+-- value's text says.
+abbrev pub outcome : ℕ → List ℕ → Written → Result SampleText NumFault → Line
+outcome now line written said =
+    with_value said (length line - written.value_left)
     (length line - written.time_left) (time_of now written.digits) (kept (built written.pairs))

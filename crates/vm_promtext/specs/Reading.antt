@@ -7,7 +7,7 @@ use Rattle.std.specs.Str.{is_utf8}
 use Rattle.vm_decimal.specs.declared.sample_text.NumFault.{NumFault}
 use Rattle.vm_decimal.specs.declared.sample_text.NumFault.TheVariants.{NotANumber, TooWide}
 use Rattle.vm_decimal.specs.declared.sample_text.SampleText.{SampleText}
-use Rattle.vm_decimal.specs.SampleText.{sample_reading}
+use Rattle.vm_decimal.specs.SampleReading.{sample_reading}
 use Rattle.vm_labels.specs.Labels.{built}
 use Rattle.vm_labels.specs.Name.{name_len}
 use Rattle.vm_labels.specs.declared.pair.Pair.{Pair}

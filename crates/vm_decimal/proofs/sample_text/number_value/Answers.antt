@@ -1,6 +1,6 @@
 use Rattle.std.proofs.Common.{◌≡◌, sym, ap, ◌∙◌, true, Ok}
 use Rattle.vm_decimal.specs.NumberMachine.{may_end}
-use Rattle.vm_decimal.specs.SampleText.{valued}
+use Rattle.vm_decimal.specs.SampleReading.{valued}
 use Rattle.vm_decimal.proofs.Readers.{reading_there}
 use Rattle.vm_decimal.proofs.sample_text.number_value.Goals as goal
 

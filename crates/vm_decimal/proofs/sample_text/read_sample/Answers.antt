@@ -1,6 +1,6 @@
 -- The answer is the computed one, of which the laws say what it means.
 use Rattle.std.proofs.Common.{ap, ◌∙◌, Ok, Err}
-use Rattle.vm_decimal.specs.SampleText.{sample_reading, value_reading}
+use Rattle.vm_decimal.specs.SampleReading.{sample_reading, value_reading}
 use Rattle.vm_decimal.specs.declared.sample_text.SampleText.TheVariants.{Value, NoNumber}
 use Rattle.vm_decimal.specs.declared.sample_text.NumFault.TheVariants.{NotANumber, TooWide}
 use Rattle.vm_decimal.proofs.SampleReadings.{answers}

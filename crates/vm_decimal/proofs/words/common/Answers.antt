@@ -1,5 +1,5 @@
 use Rattle.std.proofs.Common.{◌≡◌, ◌≤◌, drop, length, arith, ap, ◌∙◌, drop_of_length-le, []}
-use Rattle.vm_decimal.specs.Words.{common}
+use Rattle.vm_decimal.specs.WordPlaces.{common}
 use Rattle.vm_decimal.proofs.WordLaws.{common-nil}
 use Rattle.vm_decimal.proofs.words.common.Goals as goal
 

@@ -1,5 +1,5 @@
 use Rattle.std.proofs.Common.{◌≡◌, ◌≤◌, ◌+◌, ◌-◌, drop, length}
-use Rattle.vm_decimal.specs.Words.{common as common_front}
+use Rattle.vm_decimal.specs.WordPlaces.{common as common_front}
 use Rattle.vm_decimal.proofs.words.common.Given as goal
 
 abbrev pub invariant-front : goal.invariant-front
