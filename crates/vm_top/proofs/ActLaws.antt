@@ -11,8 +11,10 @@ use Rattle.vm_machine.specs.declared.refusal.Refusal.{Refusal}
 use Rattle.vm_machine.specs.declared.refusal.Refusal.TheVariants.{PendingFull, BadRange, NotBuilt, ViewsFull, UnknownRun, RunTaken, Memory}
 use Rattle.vm_top.specs.inner.Playing.{BodyOf, Gathers, IsAsked, Prints}
 use Rattle.vm_top.specs.Printed.{accepted_line, refused_line}
-use Rattle.vm_top.specs.Replay.{Answers, Accepts, Refuses, Imports, batches, all_accepted, one_refused}
-use Rattle.vm_top.specs.Rows.{format_rows, or_none}
+use Rattle.vm_top.specs.Replay.{Answers, Accepts, Refuses, Imports, BatchesCome, batches, all_accepted, one_refused}
+use Rattle.vm_top.specs.Rows.{or_none}
+use Rattle.vm_top.specs.inner.Said.{said}
+use Rattle.vm_top.proofs.SaidLaws.{lines_mean}
 use Rattle.vm_top.specs.declared.response.Response.TheVariants as response
 
 -- the number is taken
@@ -58,20 +60,24 @@ pub imported : (body : BodyOf) (passed : List (List ℕ)) (before now : State) (
     → all ≡ with_more body.parted [] → Accepts before all now → text ≡ accepted_line (length all) (row_count all) body.skipped
     → Imports body.format body.time passed before now text
 imported body passed before now all text gathers is accepts line =
-    let these : all ≡ batches body.format body.time passed = is ∙ sym (gathers.batches []) ∙ ap batches_of (append-nil (map (λ line. or_none (format_rows body.format body.time line)) passed)) in
-    subst (λ t. Imports body.format body.time passed before now t)
+    let means = said body.format body.time passed in
+    let these : all ≡ batches means = is ∙ sym (gathers.batches []) ∙ ap batches_of (append-nil (map or_none means)) in
+    (means, lines_mean body.format body.time passed,
+    subst (λ t. BatchesCome means before now t)
     (sym (line ∙ ap (λ list. accepted_line (length list) (row_count list) body.skipped) these
-    ∙ ap (accepted_line (length (batches body.format body.time passed)) (row_count (batches body.format body.time passed))) gathers.skips))
-    (all_accepted now (subst (λ list. Accepts before list now) these accepts))
+    ∙ ap (accepted_line (length (batches means)) (row_count (batches means))) gathers.skips))
+    (all_accepted now (subst (λ list. Accepts before list now) these accepts)))
 
 -- a body of which a batch was refused
 pub refused_body : (body : BodyOf) (passed : List (List ℕ)) (before now : State) (all : List Batch) (why : Refusal) (text : List ℕ)
     → Gathers body passed → all ≡ with_more body.parted [] → Refuses before all now why → text ≡ refused_line why
     → Imports body.format body.time passed before now text
 refused_body body passed before now all why text gathers is refuses line =
-    let these : all ≡ batches body.format body.time passed = is ∙ sym (gathers.batches []) ∙ ap batches_of (append-nil (map (λ line. or_none (format_rows body.format body.time line)) passed)) in
-    subst (λ t. Imports body.format body.time passed before now t) (sym line)
-    (one_refused now why (subst (λ list. Refuses before list now why) these refuses))
+    let means = said body.format body.time passed in
+    let these : all ≡ batches means = is ∙ sym (gathers.batches []) ∙ ap batches_of (append-nil (map or_none means)) in
+    (means, lines_mean body.format body.time passed,
+    subst (λ t. BatchesCome means before now t) (sym line)
+    (one_refused now why (subst (λ list. Refuses before list now why) these refuses)))
 
 -- what holds in any case holds where there is an error
 pub on_err : {A E P : Type 0} (result : Result A E) → P → OnErr result P

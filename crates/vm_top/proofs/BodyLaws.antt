@@ -15,7 +15,9 @@ use Rattle.vm_script.specs.declared.command.Command.TheVariants.{Import}
 use Rattle.vm_script.specs.declared.command.Format.{Format}
 use Rattle.vm_top.specs.inner.Playing.{Adds, BodyOf, BreaksOff, Gathers, IsCutShort}
 use Rattle.vm_top.specs.inner.Reading.{Place}
-use Rattle.vm_top.specs.Rows.{format_rows, or_none}
+use Rattle.vm_top.specs.Replay.{skipped}
+use Rattle.vm_top.specs.Rows.{or_none}
+use Rattle.vm_top.specs.inner.Said.{format_rows, said}
 use Rattle.vm_top.specs.declared.fault.Fault.{Fault}
 use Rattle.vm_top.specs.declared.fault.Fault.TheVariants.{Usage, InputTooLong, BadLine, Input, Output, Memory}
 
@@ -38,17 +40,22 @@ no_end (a ∷ b ∷ more) long =
 pub gathers_more : (old new : BodyOf) (passed : List (List ℕ)) (text : List ℕ) → Gathers old passed
     → Adds (format_rows old.format old.time text) old new → Gathers new (passed ++ text ∷ [])
 gathers_more old new passed text so_far adds =
-    let rows : List ℕ → List Row = λ line. or_none (format_rows old.format old.time line) in
-    let skips : List ℕ → ℕ = λ line. cond (is_none (format_rows old.format old.time line)) 1 0 in
+    let means = said old.format old.time passed in
+    let rows = format_rows old.format old.time text in
+    let skips : Option (List Row) → ℕ = λ said. cond (is_none said) 1 0 in
+    let all : said old.format old.time (passed ++ text ∷ []) ≡ means ++ rows ∷ [] =
+    map-append (format_rows old.format old.time) passed (text ∷ []) in
     record {
       batches = λ more.
           rw (adds.format, adds.time)
-          (ap (λ all. batches_of (all ++ more)) (map-append rows passed (text ∷ []))
-          ∙ ap batches_of (append_assoc (map rows passed) (rows text ∷ []) more)
-          ∙ so_far.batches (rows text ∷ more)
+          (ap (λ list. batches_of (map or_none list ++ more)) all
+          ∙ ap (λ list. batches_of (list ++ more)) (map-append or_none means (rows ∷ []))
+          ∙ ap batches_of (append_assoc (map or_none means) (or_none rows ∷ []) more)
+          ∙ so_far.batches (or_none rows ∷ more)
           ∙ adds.comes more);
       skips = rw (adds.format, adds.time)
-          (adds.skips ∙ ap (λ count. count + skips text) so_far.skips ∙ sym (sum_by_push skips passed text));
+          (adds.skips ∙ ap (λ count. count + skips rows) so_far.skips ∙ sym (sum_by_push skips means rows)
+          ∙ sym (ap skipped all));
       few = adds.few;
     }
 

@@ -4,7 +4,7 @@ use Rattle.std.specs.Option.{option_map}
 use Rattle.vm_outside.specs.Clock.{Answers}
 use Rattle.vm_outside.specs.Outside.{Rose, Told, Takes}
 use Rattle.vm_outside.proofs.Streams.{takes_nothing}
-use Rattle.vm_top.specs.Last.{last_answer, last_promise}
+use Rattle.vm_top.specs.Last.{IsLastAnswer, last_promise}
 use Rattle.vm_top.specs.Promise.{IsShort, IsTooLong}
 use Rattle.vm_top.specs.Replay.{replay_promise}
 use Rattle.vm_top.specs.Statuses.{IsDone, IsAnswered, IsAnsweredInPart, IsCause, status_of, outcome}
@@ -170,7 +170,7 @@ last_failed name time now (BadLine number) clock_before clock_after left left_af
 -- `last` whose answer was written in part
 pub last_part : (name : List ℕ) (time now n : ℕ) (body : List ℕ) (clock_before clock_after left left_after before after : Option (List ℕ))
     (faults faults_after lost lost_after : ℕ) → Answers clock_before now clock_after → Told left IsShort
-    → Told left (λ bytes. body ≡ last_answer name time now bytes) → n ≤ length body → Takes before (take n body) after → Rose lost lost_after
+    → Told left (λ bytes. IsLastAnswer name time now bytes body) → n ≤ length body → Takes before (take n body) after → Rose lost lost_after
     → IsDone (last_promise name time) code.OutputFault (world clock_before left faults before lost) (world clock_after left_after faults_after after lost_after)
 last_part name time now n body clock_before clock_after left left_after before after faults faults_after lost lost_after clock short is within written rose = record {
   now = now;
@@ -186,7 +186,7 @@ last_part name time now n body clock_before clock_after left left_after before a
   known = inr (inr (inr (inr refl)));
 }
   where
-    go : (left : Option (List ℕ)) → Told left IsShort → Told left (λ bytes. body ≡ last_answer name time now bytes)
+    go : (left : Option (List ℕ)) → Told left IsShort → Told left (λ bytes. IsLastAnswer name time now bytes body)
         → Told left (IsAnsweredInPart (last_promise name time) now before after)
     go None short is = tt
     go (Some input) short is = record { text = body; due = (short, is); part = n; within = within; written = written }
@@ -194,7 +194,7 @@ last_part name time now n body clock_before clock_after left left_after before a
 -- `last` whose answer was written
 pub last_done : (name : List ℕ) (time now : ℕ) (body : List ℕ) (clock_before clock_after left left_after before after : Option (List ℕ))
     (faults faults_after lost lost_after : ℕ) → Answers clock_before now clock_after → Told left IsShort
-    → Told left (λ bytes. body ≡ last_answer name time now bytes) → left_after ≡ option_map (λ _. []) left → Takes before body after
+    → Told left (λ bytes. IsLastAnswer name time now bytes body) → left_after ≡ option_map (λ _. []) left → Takes before body after
     → IsDone (last_promise name time) code.Ok (world clock_before left faults before lost) (world clock_after left_after faults_after after lost_after)
 last_done name time now body clock_before clock_after left left_after before after faults faults_after lost lost_after clock short is read written = record {
   now = now;
@@ -210,7 +210,7 @@ last_done name time now body clock_before clock_after left left_after before aft
   known = inl refl;
 }
   where
-    go : (left : Option (List ℕ)) → Told left IsShort → Told left (λ bytes. body ≡ last_answer name time now bytes)
+    go : (left : Option (List ℕ)) → Told left IsShort → Told left (λ bytes. IsLastAnswer name time now bytes body)
         → Told left (IsAnswered (last_promise name time) now before after)
     go None short is = tt
     go (Some input) short is = record { short = short; text = body; answers = is; written = written }

@@ -12,10 +12,12 @@ use Rattle.vm_machine.specs.declared.question.Question.{Question}
 use Rattle.vm_machine.specs.declared.question.Valued.{Valued}
 use Rattle.vm_machine.proofs.FoundLaws.{found_values}
 use Rattle.vm_outside.specs.Outside.{Told}
-use Rattle.vm_top.specs.Last.{question, last_answer}
+use Rattle.vm_script.specs.declared.command.Format.TheVariants.{Prom}
+use Rattle.vm_top.specs.Last.{question, IsLastAnswer}
 use Rattle.vm_top.specs.inner.Reading.{Place, Takes, first_place, unread}
 use Rattle.vm_top.specs.Reply.{reply}
-use Rattle.vm_top.specs.Rows.{rows, line_rows}
+use Rattle.vm_top.specs.inner.Said.{said, rows, line_rows}
+use Rattle.vm_top.proofs.SaidLaws.{lines_mean}
 use Rattle.vm_top.proofs.InputLaws.{unread_first, through_line, takes_none}
 
 -- facts of the content that give another
@@ -48,7 +50,8 @@ row_step now done start before after line so_far first =
 -- the reply with the values that were found
 pub answer_from : (name : List ℕ) (time now : ℕ) (bytes : List ℕ) (asked : Question) (f : List (List Pair × Option Stamped)) (values : List Valued) (body : List ℕ)
     → asked ≡ question name time → f ≡ found asked (rows now (lines bytes)) → values ≡ values_of f → body ≡ reply time values
-    → body ≡ last_answer name time now bytes
+    → IsLastAnswer name time now bytes body
 answer_from name time now bytes asked f values body is there held written =
+    (said Prom now (lines bytes), lines_mean Prom now (lines bytes),
     written ∙ ap (reply time) (held ∙ ap values_of there ∙ found_values asked (rows now (lines bytes)))
-    ∙ ap (λ q. reply time (eval 0 q (rows now (lines bytes)))) is
+    ∙ ap (λ q. reply time (eval 0 q (rows now (lines bytes)))) is)

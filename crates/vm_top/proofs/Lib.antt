@@ -7,6 +7,7 @@ mod NoteLaws
 mod OneScript
 mod PlayLaws
 mod ReplyLaws
+mod SaidLaws
 mod ScriptLaws
 mod TakenLaws
 mod WordLaws

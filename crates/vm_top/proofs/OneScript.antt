@@ -1,8 +1,9 @@
 -- A script is read in one way, and prints one text.
-use Rattle.std.proofs.Common.{◌≡◌, ℕ, ◌+◌, Bool, true, false, cond, List, [], ◌∷◌, ◌++◌, length, length-append, append_assoc, append-nil, codes, Some, Result, Ok, Err, arith, refl, sym, ap, ◌∙◌, subst}
+use Rattle.std.proofs.Common.{◌≡◌, ℕ, ◌+◌, Bool, true, false, cond, List, [], ◌∷◌, ◌++◌, length, length-append, append_assoc, append-nil, codes, Option, Some, Result, Ok, Err, arith, refl, sym, ap, ◌∙◌, subst}
 use Rattle.std.proofs.lemmas.List.{append_cancel_right, same_from_push}
 use Rattle.std.specs.List.{AllByRecursion}
 use Rattle.vm_labels.specs.declared.row.Batch.{Batch}
+use Rattle.vm_labels.specs.declared.row.Row.{Row}
 use Rattle.vm_machine.specs.Machine.{State, Event, import, begin, read, end, close, Answer, accepted, Steps, step, is_full}
 use Rattle.vm_machine.specs.declared.refusal.Refusal.{Refusal}
 use Rattle.vm_machine.specs.declared.refusal.Refusal.TheVariants.{PendingFull, BadRange, NotBuilt, ViewsFull, UnknownRun, RunTaken, Memory}
@@ -12,8 +13,9 @@ use Rattle.vm_script.specs.declared.command.Command.TheVariants.{Import, Query, 
 use Rattle.vm_script.specs.declared.command.Format.{Format}
 use Rattle.vm_top.specs.Laws.{PlaysWithMemory, no_command, next_command}
 use Rattle.vm_top.specs.Printed.{printed, refused_line}
-use Rattle.vm_top.specs.Replay.{Acts, Answers, Accepts, no_batch, next_batch, Does, Imports, all_accepted, one_refused, Refuses, batches, blank, question_of}
+use Rattle.vm_top.specs.Replay.{Acts, Answers, Accepts, no_batch, next_batch, Does, Imports, BatchesCome, all_accepted, one_refused, Refuses, batches, blank, question_of}
 use Rattle.vm_top.specs.Script.{Entry, IsEntry, HasBody, IsCutOff, IsScript, IsBadAt, entry_lines, lines_after, script_lines}
+use Rattle.vm_top.proofs.SaidLaws.{lines_mean_one}
 use Rattle.vm_top.proofs.ScriptLaws.{entry_same, head_same, tail_same, some_same, not_cut}
 
 -- one way to read it
@@ -171,27 +173,35 @@ refuses_are before list now why refuses held =
     go true is = sym is
     go false is = let no = ap (λ pair. pair.1) is in absurd cc
 
-same_imports : (format : Format) (time : ℕ) (body : List (List ℕ)) (mid m n : State) (s t : List ℕ)
-    → Imports format time body mid m s → Imports format time body mid n t
+same_come : (means : List (Option (List Row))) (mid m n : State) (s t : List ℕ)
+    → BatchesCome means mid m s → BatchesCome means mid n t
     → (s ≡ refused_line Memory → ⊥) → (t ≡ refused_line Memory → ⊥) → (m ≡ n) × (s ≡ t)
-same_imports format time body mid _ _ _ _ (all_accepted m one) (all_accepted n two) held_s held_t =
-    let list = batches format time body in
+same_come means mid _ _ _ _ (all_accepted m one) (all_accepted n two) held_s held_t =
+    let list = batches means in
     (ap (λ pair. pair.0) (sym (accepts_all mid list m one) ∙ accepts_all mid list n two), refl)
-same_imports format time body mid _ _ _ _ (all_accepted m one) (one_refused n why two) held_s held_t =
-    let list = batches format time body in
+same_come means mid _ _ _ _ (all_accepted m one) (one_refused n why two) held_s held_t =
+    let list = batches means in
     let both = sym (accepts_all mid list m one) ∙ refuses_are mid list n why two (λ is. held_t (ap refused_line is)) in
     let no = ap (λ pair. pair.1) both in
     absurd cc
-same_imports format time body mid _ _ _ _ (one_refused m why one) (all_accepted n two) held_s held_t =
-    let list = batches format time body in
+same_come means mid _ _ _ _ (one_refused m why one) (all_accepted n two) held_s held_t =
+    let list = batches means in
     let both = sym (accepts_all mid list n two) ∙ refuses_are mid list m why one (λ is. held_s (ap refused_line is)) in
     let no = ap (λ pair. pair.1) both in
     absurd cc
-same_imports format time body mid _ _ _ _ (one_refused m why one) (one_refused n other two) held_s held_t =
-    let list = batches format time body in
+same_come means mid _ _ _ _ (one_refused m why one) (one_refused n other two) held_s held_t =
+    let list = batches means in
     let both = sym (refuses_are mid list m why one (λ is. held_s (ap refused_line is)))
     ∙ refuses_are mid list n other two (λ is. held_t (ap refused_line is)) in
     (ap (λ pair. pair.0) both, ap (λ pair. printed 0 pair.1) both)
+
+-- lines mean one thing, so their batches are the same
+same_imports : (format : Format) (time : ℕ) (body : List (List ℕ)) (mid m n : State) (s t : List ℕ)
+    → Imports format time body mid m s → Imports format time body mid n t
+    → (s ≡ refused_line Memory → ⊥) → (t ≡ refused_line Memory → ⊥) → (m ≡ n) × (s ≡ t)
+same_imports format time body mid m n s t one two held_s held_t =
+    let same = lines_mean_one format time body one.0 one.1 ∙ sym (lines_mean_one format time body two.0 two.1) in
+    same_come two.0 mid m n s t (subst (λ means. BatchesCome means mid m s) same one.2) two.2 held_s held_t
 
 same_does : (command : Command) (body : List (List ℕ)) (mid m n : State) (s t : List ℕ) → Does command body mid m s
     → Does command body mid n t → (s ≡ refused_line Memory → ⊥) → (t ≡ refused_line Memory → ⊥) → (m ≡ n) × (s ≡ t)

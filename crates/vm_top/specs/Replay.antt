@@ -3,6 +3,7 @@ use Rattle.std.specs.Prelude.{◌≡◌, ℕ, nat_lt, length, false, List, [], �
 use Rattle.std.specs.List.{AllByRecursion}
 use Rattle.std.specs.Option.{is_none}
 use Rattle.vm_labels.specs.declared.row.Batch.{Batch}
+use Rattle.vm_labels.specs.declared.row.Row.{Row}
 use Rattle.vm_labels.specs.declared.selector.Selector.{Selector}
 use Rattle.vm_lines.specs.Feeds.{HasNoFeed}
 use Rattle.vm_lines.specs.Lines.{lines}
@@ -19,7 +20,7 @@ use Rattle.vm_script.specs.declared.command.Command.TheVariants.{Import, Query, 
 use Rattle.vm_script.specs.declared.command.Format.{Format}
 use Rattle.vm_top.specs.Printed.{printed, accepted_line, refused_line}
 use Rattle.vm_top.specs.Promise.{Promise, IsTooLong}
-use Rattle.vm_top.specs.Rows.{format_rows, or_none}
+use Rattle.vm_top.specs.Rows.{LinesMean, or_none}
 use Rattle.vm_top.specs.Script.{Entry, IsEntry, AreWithin, Begins, IsScript, Breaks, script_lines}
 
 -- a machine to which nothing happened yet
@@ -58,21 +59,25 @@ pub record Refuses (before : State) (batches : List Batch) (now : State) (why : 
   pub accepts : Accepts before first mid
   pub steps : Steps mid (import batch) now (Err why)
 
--- the batches of a body whose lines are of a format and read at a time
-abbrev pub batches : Format → ℕ → List (List ℕ) → List Batch
-batches format now body = batches_of (map (λ line. or_none (format_rows format now line)) body)
+-- the batches of lines that mean this
+abbrev pub batches : List (Option (List Row)) → List Batch
+batches said = batches_of (map or_none said)
 
--- how many of its lines are skipped
-abbrev pub skipped : Format → ℕ → List (List ℕ) → ℕ
-skipped format now body = count_by (λ line. is_none (format_rows format now line)) body
+-- how many of the lines are skipped
+abbrev pub skipped : List (Option (List Row)) → ℕ
+skipped said = count_by is_none said
 
--- the batches of a body are imported, all of them or up to the first that is refused
-pub data Imports (format : Format) (time : ℕ) (body : List (List ℕ)) (before : State) : State → List ℕ → Type 0 where
-  all_accepted : (now : State) → Accepts before (batches format time body) now
-      → Imports format time body before now
-      (accepted_line (length (batches format time body)) (row_count (batches format time body)) (skipped format time body))
-  one_refused : (now : State) (why : Refusal) → Refuses before (batches format time body) now why
-      → Imports format time body before now (refused_line why)
+-- the batches of lines that mean this come, all of them or up to the first that is refused
+pub data BatchesCome (said : List (Option (List Row))) (before : State) : State → List ℕ → Type 0 where
+  all_accepted : (now : State) → Accepts before (batches said) now
+      → BatchesCome said before now (accepted_line (length (batches said)) (row_count (batches said)) (skipped said))
+  one_refused : (now : State) (why : Refusal) → Refuses before (batches said) now why
+      → BatchesCome said before now (refused_line why)
+
+-- a body is imported whose lines are of a format and read at a time
+abbrev pub Imports : Format → ℕ → List (List ℕ) → State → State → List ℕ → Type 0
+Imports format time body before now text =
+    (said : List (Option (List Row))) × LinesMean format time body said × BatchesCome said before now text
 
 -- a command with a body is done, and this is printed
 abbrev pub Does : Command → List (List ℕ) → State → State → List ℕ → Type 0

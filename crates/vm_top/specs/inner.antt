@@ -1,3 +1,4 @@
 pub mod Asked
 pub mod Playing
 pub mod Reading
+pub mod Said

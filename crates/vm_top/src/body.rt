@@ -10,7 +10,7 @@ ghost use Rattle.vm_promtext.specs.Means.{rows_of};
 ghost use Rattle.vm_script.specs.Command.{is_body_end};
 ghost use Rattle.vm_script.specs.declared.command.Command.TheVariants.{Import};
 ghost use Rattle.vm_top.specs.inner.Playing.{Adds, BreaksOff, Gathers, ReadsBody};
-ghost use Rattle.vm_top.specs.Rows.{format_rows};
+ghost use Rattle.vm_top.specs.inner.Said.{format_rows};
 ghost use Rattle.vm_top.specs.inner.Reading.{Takes, GoesOver, IsLineOf};
 
 use crate::fault::Fault;

@@ -8,9 +8,10 @@ ghost use Rattle.vm_machine.specs.Found.{found as found_in};
 ghost use Rattle.vm_outside.specs.Outside.{Told, Rose};
 ghost use Rattle.vm_promtext.specs.Means.{rows_of};
 ghost use Rattle.vm_promtext.specs.Reading.{reading};
-ghost use Rattle.vm_top.specs.Last.{named, question, last_answer};
+ghost use Rattle.vm_top.specs.Last.{named, question, IsLastAnswer};
 ghost use Rattle.vm_top.specs.inner.Reading.{IsLineOf};
-ghost use Rattle.vm_top.specs.Rows.{rows, or_none};
+ghost use Rattle.vm_top.specs.Rows.{or_none};
+ghost use Rattle.vm_top.specs.inner.Said.{rows};
 ghost use Rattle.vm_top.specs.Promise.{IsShort};
 
 use crate::fault::Fault;
@@ -39,7 +40,7 @@ pub fn last_answer<S: Source>(
 
     // What `Ok` holds.
     ensures body { IfOk result (λ body. Told (S.left input.old) (λ bytes.
-        body.items ≡ last_answer name.now time now bytes)) }
+        IsLastAnswer name.now time now bytes body.items)) }
     ensures short { OnOk result (Told (S.left input.old) IsShort) }
     ensures end { OnOk result (S.left input.new ≡ option_map (λ _. []) (S.left input.old)) }
 

@@ -19,7 +19,8 @@ use Rattle.vm_top.specs.Printed.{accepted_line, refused_line}
 use Rattle.vm_top.specs.Promise.{IsTooLong}
 use Rattle.vm_top.specs.Reply.{reply}
 use Rattle.vm_top.specs.Replay.{blank, skipped, Does, Plays, IsPlayedBefore, IsPlayedToBad, replay_promise}
-use Rattle.vm_top.specs.Rows.{format_rows, or_none}
+use Rattle.vm_top.specs.Rows.{or_none}
+use Rattle.vm_top.specs.inner.Said.{said}
 use Rattle.vm_top.specs.Script.{Entry, IsEntry, HasBody, AreWithin, IsCutOff, IsBadAt, lines_after, script_lines}
 use Rattle.vm_top.specs.Statuses.{IsAnswered, IsAnsweredInPart, Wrote}
 use Rattle.vm_top.specs.inner.Reading.{Place, unread, GoesOver, StopsAt}
@@ -42,8 +43,9 @@ pub record BodyOf : Type 0 where
 
 -- the body of these lines, with more to come
 pub record Gathers (body : BodyOf) (passed : List (List ℕ)) : Type 0 where
-  pub batches : (more : List (List Row)) → batches_of (map (λ line. or_none (format_rows body.format body.time line)) passed ++ more) ≡ with_more body.parted more
-  pub skips : body.skipped ≡ skipped body.format body.time passed
+  pub batches : (more : List (List Row))
+      → batches_of (map or_none (said body.format body.time passed) ++ more) ≡ with_more body.parted more
+  pub skips : body.skipped ≡ skipped (said body.format body.time passed)
   pub few : length body.parted.held < enough
 
 -- what one line more says came to a body: its rows, or that it is skipped

@@ -3,7 +3,8 @@ use Rattle.vm_machine.specs.Found.{found}
 use Rattle.vm_machine.proofs.FoundLaws.{found_empty}
 use Rattle.vm_promtext.specs.Means.{rows_of}
 use Rattle.vm_top.specs.inner.Reading.{Comes, HasLine, IsLineOf, first_place, unread}
-use Rattle.vm_top.specs.Rows.{rows, line_rows, or_none}
+use Rattle.vm_top.specs.Rows.{or_none}
+use Rattle.vm_top.specs.inner.Said.{rows, line_rows}
 use Rattle.vm_top.specs.declared.fault.Fault.TheVariants.{InputTooLong}
 use Rattle.vm_top.proofs.InputLaws.{takes_more, long_from}
 use Rattle.vm_top.proofs.LastLaws.{all_unread, none_taken, row_step}

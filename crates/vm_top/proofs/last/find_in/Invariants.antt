@@ -5,7 +5,7 @@ use Rattle.vm_lines.specs.Lines.{lines}
 use Rattle.vm_lines.specs.Reading.{to_go, KnowsEnd}
 use Rattle.vm_machine.specs.Found.{found}
 use Rattle.vm_top.specs.inner.Reading.{Takes, unread, first_place}
-use Rattle.vm_top.specs.Rows.{rows}
+use Rattle.vm_top.specs.inner.Said.{rows}
 use Rattle.vm_top.proofs.last.find_in.Given as goal
 
 abbrev pub invariant-lines : goal.invariant-lines
