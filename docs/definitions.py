@@ -68,7 +68,8 @@ def named(text, uses, local, module):
 
 
 def main(words):
-    crate, function, clause = [it for it in words if it != "-l"] or ("vm_top", "run_words", "done")
+    asked = [it for it in words if it != "-l"] or ["vm_top", "run_words", "done"]
+    crate, function, clause = asked if len(asked) == 3 else sys.exit(__doc__)
     met, todo = {}, []
     for path in sorted((ROOT / crate / "src").glob("**/*.rt")):
         there = re.search(rf"fn {function}\b.*?\n *\{{\n", path.read_text(), re.S)

@@ -1,10 +1,22 @@
--- That a script is read in one way, and prints one text.
-use Rattle.std.specs.Prelude.{◌≡◌, ℕ, List, [], ◌∷◌, ◌++◌}
+-- That lines mean one thing, a script is read in one way, and prints one text.
+use Rattle.std.specs.Prelude.{◌≡◌, ℕ, List, [], ◌∷◌, ◌++◌, Option}
+use Rattle.vm_labels.specs.declared.row.Row.{Row}
 use Rattle.vm_machine.specs.Machine.{State}
 use Rattle.vm_machine.specs.declared.refusal.Refusal.TheVariants.{Memory}
+use Rattle.vm_script.specs.declared.command.Format.{Format}
 use Rattle.vm_top.specs.Printed.{refused_line}
 use Rattle.vm_top.specs.Replay.{Acts, blank}
+use Rattle.vm_top.specs.Rows.{LinesMean}
 use Rattle.vm_top.specs.Script.{Entry, IsScript, IsBadAt}
+
+-- any lines mean something
+abbrev pub SomeMeaning : Type 0
+SomeMeaning = (format : Format) (now : ℕ) (lines : List (List ℕ)) → (said : List (Option (List Row))) × LinesMean format now lines said
+
+-- and nothing else
+abbrev pub OneMeaning : Type 0
+OneMeaning = (format : Format) (now : ℕ) (lines : List (List ℕ)) (one other : List (Option (List Row)))
+    → LinesMean format now lines one → LinesMean format now lines other → one ≡ other
 
 -- one line at most is the first outside the grammar
 abbrev pub OneBadLine : Type 0

@@ -32,6 +32,6 @@ mod status;
 mod words;
 
 pub use fault::Fault;
-pub use laws::{a_script_prints_one_text, one_line_is_the_first_bad_one};
+pub use laws::{a_script_prints_one_text, lines_mean_one_thing, one_line_is_the_first_bad_one};
 pub use program::run_words;
 pub use status::Status;
