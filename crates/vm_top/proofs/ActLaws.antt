@@ -4,50 +4,72 @@ use Rattle.std.specs.Option.{is_some}
 use Rattle.std.specs.Result.{is_ok, IsErrAnd}
 use Rattle.vm_labels.specs.declared.row.Batch.{Batch}
 use Rattle.vm_machine.specs.Batches.{batches_of, row_count, with_more}
-use Rattle.vm_machine.specs.Machine.{State, Steps, run_of, begin, end, begin_step, end_step, values, without}
+use Rattle.vm_machine.specs.Eval.{instant}
+use Rattle.vm_machine.specs.Machine.{Steps, run_of, begin, end, begin_step, end_step, values, without}
+use Rattle.vm_machine.specs.declared.question.Evaluated.{Evaluated}
 use Rattle.vm_machine.specs.declared.question.Question.{Question}
-use Rattle.vm_machine.specs.declared.question.Valued.{Valued}
 use Rattle.vm_machine.specs.declared.refusal.Refusal.{Refusal}
-use Rattle.vm_machine.specs.declared.refusal.Refusal.TheVariants.{PendingFull, BadRange, NotBuilt, ViewsFull, UnknownRun, RunTaken, Memory}
-use Rattle.vm_top.specs.inner.Playing.{BodyOf, Gathers, IsAsked, Prints}
-use Rattle.vm_top.specs.Printed.{accepted_line, refused_line}
-use Rattle.vm_top.specs.Replay.{Answers, Accepts, Refuses, Imports, BatchesCome, batches, all_accepted, one_refused}
+use Rattle.vm_machine.specs.declared.refusal.Refusal.TheVariants.{RunTaken, Memory}
+use Rattle.vm_machine.specs.declared.run.Run.{Run}
+use Rattle.vm_top.specs.inner.Playing.{BodyOf, Gathers, Prints}
+use Rattle.vm_top.specs.Printed.{accepted_line, bad_query_line, refused_line}
+use Rattle.vm_top.specs.Replay.{State, Answers, Asks, IsToldOf, Accepts, Refuses, Imports, BatchesCome, batches, all_accepted, one_refused}
 use Rattle.vm_top.specs.Rows.{or_none}
 use Rattle.vm_top.specs.inner.Said.{said}
 use Rattle.vm_top.proofs.SaidLaws.{lines_mean}
+use Rattle.vm_top.specs.declared.query_fault.QueryFault.{QueryFault}
 use Rattle.vm_top.specs.declared.response.Response.TheVariants as response
 
--- the number is taken
-pub taken : (state : State) (number : ℕ) (asked : Result Question Refusal) → is_some (run_of number state.runs) ≡ true
-    → Steps state (begin number asked) state (Err (RunTaken number))
-taken state number asked some = go (run_of number state.runs) some
+-- a query of a run whose number is taken
+pub asks_taken : (state : State) (run : ℕ) (asked : Result Question QueryFault) (text : List ℕ)
+    → is_some (run_of run state.runs) ≡ true → text ≡ refused_line (RunTaken run) → Asks run asked state state text
+asks_taken state run (Ok question) text some is =
+    record { answer = Err (RunTaken run); steps = go (run_of run state.runs) some; text_is = is }
   where
-    go : (there : Option _) → is_some there ≡ true → (state, Err (RunTaken number)) ≡ begin_step there state number asked
-    go None is = absurd cc
-    go (Some run) is = refl
+    go : (there : Option (Run Question)) → is_some there ≡ true
+        → (state, Err (RunTaken run)) ≡ begin_step instant there state run question
+    go None some = absurd cc
+    go (Some open_run) some = refl
+asks_taken state run (Err fault) text some is = (refl, go (run_of run state.runs) some)
+  where
+    go : (there : Option (Run Question)) → is_some there ≡ true → IsToldOf fault run there text
+    go None some = absurd cc
+    go (Some open_run) some = is
 
--- the question was refused
-pub refused_question : (state : State) (number : ℕ) (asked : Result Question Refusal) (why : Refusal) → run_of number state.runs ≡ None
-    → IsAsked asked (Err why) → Steps state (begin number asked) state (Err why)
-refused_question state number asked Memory free is = (free, refl)
-refused_question state number asked PendingFull free is = rw free (rw (sym is) refl)
-refused_question state number asked BadRange free is = rw free (rw (sym is) refl)
-refused_question state number asked NotBuilt free is = rw free (rw (sym is) refl)
-refused_question state number asked ViewsFull free is = rw free (rw (sym is) refl)
-refused_question state number asked (UnknownRun run) free is = rw free (rw (sym is) refl)
-refused_question state number asked (RunTaken run) free is = rw free (rw (sym is) refl)
+-- a query that asks for nothing
+pub asks_nothing : (state : State) (run : ℕ) (asked : Result Question QueryFault) (fault : QueryFault) (text : List ℕ)
+    → asked ≡ Err fault → run_of run state.runs ≡ None → text ≡ bad_query_line fault → Asks run asked state state text
+asks_nothing state run asked fault text is free line =
+    subst (λ given. Asks run given state state text) (sym is)
+    (refl, subst (λ there. IsToldOf fault run there text) (sym free) (inl line))
+
+-- a query for which there was no memory
+pub asks_without_memory : (state : State) (run : ℕ) (asked : Result Question QueryFault) (text : List ℕ)
+    → run_of run state.runs ≡ None → text ≡ refused_line Memory → Asks run asked state state text
+asks_without_memory state run (Ok question) text free line =
+    record { answer = Err Memory; steps = (free, refl); text_is = line }
+asks_without_memory state run (Err fault) text free line =
+    (refl, subst (λ there. IsToldOf fault run there text) (sym free) (inr line))
+
+-- a query that asks for something
+pub asks_question : (before now : State) (run : ℕ) (asked : Result Question QueryFault) (question : Question) (text : List ℕ)
+    → asked ≡ Ok question → Answers run (begin run question) before now text → Asks run asked before now text
+asks_question before now run asked question text is answers =
+    subst (λ given. Asks run given before now text) (sym is) answers
 
 -- the reply to a run that ended, or that there was no memory for it
-pub ended : (before now : State) (number time : ℕ) (list : List Valued) (text : List ℕ)
-    → Steps before (end number) now (Ok (values time list)) → Prints (response.Values time list) text
+pub ended : (before now : State) (number : ℕ) (evaluated : Evaluated) (text : List ℕ)
+    → Steps instant before (end number) now (Ok (values evaluated))
+    → Prints (response.Values evaluated.time evaluated.values) text
     → Answers number (end number) before now text
-ended before now number time list text steps (inl is) = record { answer = Ok (values time list); steps = steps; text_is = is }
-ended before now number time list text steps (inr is) =
+ended before now number evaluated text steps (inl is) =
+    record { answer = Ok (values evaluated); steps = steps; text_is = is }
+ended before now number evaluated text steps (inr is) =
     record { answer = Err Memory; steps = go (run_of number before.runs) steps; text_is = is }
   where
-    go : (there : Option _) → (now, Ok (values time list)) ≡ end_step there before number
+    go : (there : Option (Run Question)) → (now, Ok (values evaluated)) ≡ end_step instant there before number
         → (is_some there ≡ true) × (now ≡ without before number)
-    go None is = let no : true ≡ false = ap (λ pair. is_ok pair.1) is in absurd cc
+    go None is = let wrong : true ≡ false = ap (λ pair. is_ok pair.1) is in absurd cc
     go (Some run) is = (refl, ap (λ pair. pair.0) is)
 
 -- what holds of what is given gives another fact

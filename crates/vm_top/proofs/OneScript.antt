@@ -1,19 +1,24 @@
 -- A script is read in one way, and prints one text.
-use Rattle.std.proofs.Common.{◌≡◌, ℕ, ◌+◌, Bool, true, false, cond, List, [], ◌∷◌, ◌++◌, length, length-append, append_assoc, append-nil, codes, Option, Some, Result, Ok, Err, arith, refl, sym, ap, ◌∙◌, subst}
+use Rattle.std.proofs.Common.{◌≡◌, ℕ, ◌+◌, Bool, true, false, cond, List, [], ◌∷◌, ◌++◌, length, length-append, append_assoc, append-nil, codes, Option, Some, None, Result, Ok, Err, arith, refl, sym, ap, ◌∙◌, subst, inl, inr}
 use Rattle.std.proofs.lemmas.List.{append_cancel_right, same_from_push}
 use Rattle.std.specs.List.{AllByRecursion}
 use Rattle.vm_labels.specs.declared.row.Batch.{Batch}
 use Rattle.vm_labels.specs.declared.row.Row.{Row}
-use Rattle.vm_machine.specs.Machine.{State, Event, import, begin, read, end, close, Answer, accepted, Steps, step, is_full}
+use Rattle.vm_machine.specs.Eval.{instant}
+use Rattle.vm_machine.specs.Machine.{Event, import, begin, read, end, close, Answer, accepted, run_of, Steps, step, is_full}
+use Rattle.vm_machine.specs.declared.question.Evaluated.{Evaluated}
+use Rattle.vm_machine.specs.declared.question.Question.{Question}
 use Rattle.vm_machine.specs.declared.refusal.Refusal.{Refusal}
-use Rattle.vm_machine.specs.declared.refusal.Refusal.TheVariants.{PendingFull, BadRange, NotBuilt, ViewsFull, UnknownRun, RunTaken, Memory}
+use Rattle.vm_machine.specs.declared.refusal.Refusal.TheVariants.{PendingFull, ViewsFull, UnknownRun, RunTaken, Memory}
+use Rattle.vm_machine.specs.declared.run.Run.{Run}
 use Rattle.vm_script.specs.Command.{command_of}
 use Rattle.vm_script.specs.declared.command.Command.{Command}
 use Rattle.vm_script.specs.declared.command.Command.TheVariants.{Import, Query, Run, End, Close}
 use Rattle.vm_script.specs.declared.command.Format.{Format}
 use Rattle.vm_top.specs.Laws.{PlaysWithMemory, no_command, next_command}
 use Rattle.vm_top.specs.Printed.{printed, refused_line}
-use Rattle.vm_top.specs.Replay.{Acts, Answers, Accepts, no_batch, next_batch, Does, Imports, BatchesCome, all_accepted, one_refused, Refuses, batches, blank, question_of}
+use Rattle.vm_top.specs.Replay.{State, Acts, Answers, Asks, IsToldOf, Accepts, no_batch, next_batch, Does, Imports, BatchesCome, all_accepted, one_refused, Refuses, batches, blank, question_of}
+use Rattle.vm_top.specs.declared.query_fault.QueryFault.{QueryFault}
 use Rattle.vm_top.specs.Script.{Entry, IsEntry, HasBody, IsCutOff, IsScript, IsBadAt, entry_lines, lines_after, script_lines}
 use Rattle.vm_top.proofs.SaidLaws.{lines_mean_one}
 use Rattle.vm_top.proofs.ScriptLaws.{entry_same, head_same, tail_same, some_same, not_cut}
@@ -101,18 +106,16 @@ one_list (e ∷ es) (f ∷ fs) are_e are_f same =
 -- one text that it prints
 
 -- the machine's own answer, unless memory ran out
-own_answer : (state : State) (event : Event) (now : State) (answer : Result Answer Refusal) → Steps state event now answer
-    → (answer ≡ Err Memory → ⊥) → (now, answer) ≡ step state event
+own_answer : (state : State) (event : Event Question) (now : State) (answer : Result (Answer Evaluated) Refusal)
+    → Steps instant state event now answer → (answer ≡ Err Memory → ⊥) → (now, answer) ≡ step instant state event
 own_answer state event now (Ok a) steps held = steps
 own_answer state event now (Err PendingFull) steps held = steps
-own_answer state event now (Err BadRange) steps held = steps
-own_answer state event now (Err NotBuilt) steps held = steps
 own_answer state event now (Err ViewsFull) steps held = steps
 own_answer state event now (Err (UnknownRun run)) steps held = steps
 own_answer state event now (Err (RunTaken run)) steps held = steps
 own_answer state event now (Err Memory) steps held = absurd (held refl)
 
-same_answers : (run : ℕ) (event : Event) (mid m n : State) (s t : List ℕ) → Answers run event mid m s → Answers run event mid n t
+same_answers : (run : ℕ) (event : Event Question) (mid m n : State) (s t : List ℕ) → Answers run event mid m s → Answers run event mid n t
     → (s ≡ refused_line Memory → ⊥) → (t ≡ refused_line Memory → ⊥) → (m ≡ n) × (s ≡ t)
 same_answers run event mid m n s t one two held_s held_t =
     let both : (m, one.answer) ≡ (n, two.answer) =
@@ -120,24 +123,37 @@ same_answers run event mid m n s t one two held_s held_t =
     ∙ sym (own_answer mid event n two.answer two.steps (λ is. held_t (two.text_is ∙ ap (printed run) is))) in
     (ap (λ pair. pair.0) both, one.text_is ∙ ap (λ pair. printed run pair.1) both ∙ sym two.text_is)
 
+same_asks : (run : ℕ) (asked : Result Question QueryFault) (mid m n : State) (s t : List ℕ) → Asks run asked mid m s → Asks run asked mid n t
+    → (s ≡ refused_line Memory → ⊥) → (t ≡ refused_line Memory → ⊥) → (m ≡ n) × (s ≡ t)
+same_asks run (Ok question) mid m n s t one two held_s held_t =
+    same_answers run (begin run question) mid m n s t one two held_s held_t
+same_asks run (Err fault) mid m n s t one two held_s held_t =
+    (one.0 ∙ sym two.0, go (run_of run mid.runs) one.1 two.1)
+  where
+    go : (there : Option (Run Question)) → IsToldOf fault run there s → IsToldOf fault run there t → s ≡ t
+    go (Some open_run) is other = is ∙ sym other
+    go None (inl is) (inl other) = is ∙ sym other
+    go None (inl is) (inr other) = absurd (held_t other)
+    go None (inr is) other = absurd (held_s is)
+
 -- a batch comes, and finds no room or some
-abbrev came : Bool → State → Batch → State × Result Answer Refusal
+abbrev came : Bool → State → Batch → State × Result (Answer Evaluated) Refusal
 came full state batch =
     cond full (state, Err PendingFull) (record state { accepted = state.accepted ++ batch ∷ [] }, Ok accepted)
 
 -- why something was refused, where it was
-abbrev why_of : Result Answer Refusal → Refusal
+abbrev why_of : Result (Answer Evaluated) Refusal → Refusal
 why_of (Ok answer) = Memory
 why_of (Err why) = why
 
 -- batches that come one after the other, up to the first that finds no room
-import_all : State → List Batch → State × Result Answer Refusal
+import_all : State → List Batch → State × Result (Answer Evaluated) Refusal
 import_all state [] = (state, Ok accepted)
 import_all state (batch ∷ more) =
     cond (is_full state batch) (state, Err PendingFull) (import_all (record state { accepted = state.accepted ++ batch ∷ [] }) more)
 
 -- it came with others after it
-abbrev went : Bool → State → Batch → List Batch → State × Result Answer Refusal
+abbrev went : Bool → State → Batch → List Batch → State × Result (Answer Evaluated) Refusal
 went full state batch more =
     cond full (state, Err PendingFull) (import_all (record state { accepted = state.accepted ++ batch ∷ [] }) more)
 
@@ -207,7 +223,7 @@ same_does : (command : Command) (body : List (List ℕ)) (mid m n : State) (s t 
     → Does command body mid n t → (s ≡ refused_line Memory → ⊥) → (t ≡ refused_line Memory → ⊥) → (m ≡ n) × (s ≡ t)
 same_does (Import format time) body mid m n s t one two held_s held_t = same_imports format time body mid m n s t one two held_s held_t
 same_does (Query run time expression) body mid m n s t one two held_s held_t =
-    same_answers run (begin run (question_of time expression)) mid m n s t one two held_s held_t
+    same_asks run (question_of time expression) mid m n s t one two held_s held_t
 same_does (Run run) body mid m n s t one two held_s held_t = same_answers run (read run) mid m n s t one two held_s held_t
 same_does (End run) body mid m n s t one two held_s held_t = same_answers run (end run) mid m n s t one two held_s held_t
 same_does (Close run) body mid m n s t one two held_s held_t = same_answers run (close run) mid m n s t one two held_s held_t

@@ -9,14 +9,13 @@ use Rattle.std.proofs.lemmas.Bool.{lt-leb, ltb-true}
 use Rattle.vm_lines.specs.Lines.{lines, is_too_long}
 use Rattle.vm_lines.specs.Reading.{IsSpent}
 use Rattle.vm_lines.specs.declared.step.Step.{Step}
-use Rattle.vm_machine.specs.Machine.{State}
 use Rattle.vm_outside.specs.Outside.{Told, Takes}
 use Rattle.vm_outside.proofs.Streams.{takes_more, takes_nothing}
 use Rattle.vm_script.specs.Command.{command_of}
 use Rattle.vm_top.specs.inner.Playing.{Through, Passes, PlaysLine, HasPlayed, IsBrokenBy, IsCutShort, BreaksOff, CanPlay, Ends}
 use Rattle.vm_top.specs.inner.Reading.{Place, HasLine, GoesOver, StopsAt, unread, first_place}
 use Rattle.vm_top.specs.Promise.{IsShort, IsTooLong}
-use Rattle.vm_top.specs.Replay.{Plays, no_command, next_command, blank, Holds, IsOpen, IsPlayedSoFar, IsPlayedBefore, replay_promise}
+use Rattle.vm_top.specs.Replay.{State, Plays, no_command, next_command, blank, Holds, IsOpen, IsPlayedSoFar, IsPlayedBefore, replay_promise}
 use Rattle.vm_top.specs.Script.{Entry, IsEntry, IsCutOff, Breaks, entry_lines, lines_after, script_lines}
 use Rattle.vm_top.specs.Statuses.{IsAnsweredInPart, Wrote}
 use Rattle.vm_top.specs.declared.fault.Fault.{Fault}

@@ -1,11 +1,10 @@
 -- That lines mean one thing, a script is read in one way, and prints one text.
 use Rattle.std.specs.Prelude.{◌≡◌, ℕ, List, [], ◌∷◌, ◌++◌, Option}
 use Rattle.vm_labels.specs.declared.row.Row.{Row}
-use Rattle.vm_machine.specs.Machine.{State}
 use Rattle.vm_machine.specs.declared.refusal.Refusal.TheVariants.{Memory}
 use Rattle.vm_script.specs.declared.command.Format.{Format}
 use Rattle.vm_top.specs.Printed.{refused_line}
-use Rattle.vm_top.specs.Replay.{Acts, blank}
+use Rattle.vm_top.specs.Replay.{State, Acts, blank}
 use Rattle.vm_top.specs.Rows.{LinesMean}
 use Rattle.vm_top.specs.Script.{Entry, IsScript, IsBadAt}
 

@@ -9,45 +9,65 @@ use Rattle.vm_lines.specs.Feeds.{HasNoFeed}
 use Rattle.vm_lines.specs.Lines.{lines}
 use Rattle.vm_lines.specs.Reading.{EndsInFeed}
 use Rattle.vm_machine.specs.Batches.{batches_of, row_count}
-use Rattle.vm_machine.specs.Machine.{State, Event, import, begin, read, end, close, Answer, accepted, Steps}
+use Rattle.vm_machine.specs.Eval.{instant}
+use Rattle.vm_machine.specs.Machine.{State as StateOf, Event, import, begin, read, end, close, Answer, accepted, run_of, Steps}
+use Rattle.vm_machine.specs.declared.question.Evaluated.{Evaluated}
 use Rattle.vm_machine.specs.declared.question.Question.{Question}
 use Rattle.vm_machine.specs.declared.refusal.Refusal.{Refusal}
-use Rattle.vm_machine.specs.declared.refusal.Refusal.TheVariants.{BadRange, NotBuilt}
+use Rattle.vm_machine.specs.declared.refusal.Refusal.TheVariants.{RunTaken, Memory}
+use Rattle.vm_machine.specs.declared.run.Run.{Run}
 use Rattle.vm_script.specs.Command.{command_of}
 use Rattle.vm_script.specs.Expression.{selector_of}
 use Rattle.vm_script.specs.declared.command.Command.{Command}
 use Rattle.vm_script.specs.declared.command.Command.TheVariants.{Import, Query, Run, End, Close}
 use Rattle.vm_script.specs.declared.command.Format.{Format}
-use Rattle.vm_top.specs.Printed.{printed, accepted_line, refused_line}
+use Rattle.vm_top.specs.Printed.{printed, accepted_line, bad_query_line, refused_line}
 use Rattle.vm_top.specs.Promise.{Promise, IsTooLong}
 use Rattle.vm_top.specs.Rows.{LinesMean, or_none}
+use Rattle.vm_top.specs.declared.query_fault.QueryFault.{QueryFault}
+use Rattle.vm_top.specs.declared.query_fault.QueryFault.TheVariants.{BadRange, NotBuilt}
 use Rattle.vm_top.specs.Script.{Entry, IsEntry, AreWithin, Begins, IsScript, Breaks, script_lines}
+
+-- a machine that takes instant queries
+abbrev pub State : Type 0
+State = StateOf Question
 
 -- a machine to which nothing happened yet
 abbrev pub blank : State
 blank = record { accepted = []; durable = 0; interval = 0; runs = [] }
 
 -- the question for a selector, if there is one
-abbrev pub asked_of : ℕ → Option Selector → Result Question Refusal
+abbrev pub asked_of : ℕ → Option Selector → Result Question QueryFault
 asked_of time None = Err NotBuilt
 asked_of time (Some selector) = Ok (record { time = time; selector = selector })
 
 -- the question of a query, where its time is at most 2^48 - 1 and its expression can be read
-abbrev pub question_of : ℕ → List ℕ → Result Question Refusal
+abbrev pub question_of : ℕ → List ℕ → Result Question QueryFault
 question_of time expression =
     if nat_lt 281474976710655 time then Err BadRange else asked_of time (selector_of expression)
 
 -- the machine does what an event asks, and its answer is printed
-pub record Answers (run : ℕ) (event : Event) (before now : State) (text : List ℕ) : Type 0 where
-  pub answer : Result Answer Refusal
-  pub steps : Steps before event now answer
+pub record Answers (run : ℕ) (event : Event Question) (before now : State) (text : List ℕ) : Type 0 where
+  pub answer : Result (Answer Evaluated) Refusal
+  pub steps : Steps instant before event now answer
   pub text_is : text ≡ printed run answer
+
+-- what is printed of a query that asks for nothing: that its run is taken, or else what is wrong with it,
+-- unless memory runs out while it is read
+abbrev pub IsToldOf : QueryFault → ℕ → Option (Run Question) → List ℕ → Type 0
+IsToldOf fault run (Some taken) text = text ≡ refused_line (RunTaken run)
+IsToldOf fault run None text = (text ≡ bad_query_line fault) ⊎ (text ≡ refused_line Memory)
+
+-- a query is begun where it asks for something, and else changes nothing
+abbrev pub Asks : ℕ → Result Question QueryFault → State → State → List ℕ → Type 0
+Asks run (Ok question) before now text = Answers run (begin run question) before now text
+Asks run (Err fault) before now text = (now ≡ before) × IsToldOf fault run (run_of run before.runs) text
 
 -- batches are accepted, one after the other
 pub data Accepts : State → List Batch → State → Type 0 where
   no_batch : (state : State) → Accepts state [] state
   next_batch : (before mid now : State) (batches : List Batch) (batch : Batch) → Accepts before batches mid
-      → Steps mid (import batch) now (Ok accepted) → Accepts before (batches ++ batch ∷ []) now
+      → Steps instant mid (import batch) now (Ok accepted) → Accepts before (batches ++ batch ∷ []) now
 
 -- batches are accepted up to one that is refused
 pub record Refuses (before : State) (batches : List Batch) (now : State) (why : Refusal) : Type 0 where
@@ -57,7 +77,7 @@ pub record Refuses (before : State) (batches : List Batch) (now : State) (why : 
   pub are : batches ≡ first ++ batch ∷ more
   pub mid : State
   pub accepts : Accepts before first mid
-  pub steps : Steps mid (import batch) now (Err why)
+  pub steps : Steps instant mid (import batch) now (Err why)
 
 -- the batches of lines that mean this
 abbrev pub batches : List (Option (List Row)) → List Batch
@@ -82,8 +102,7 @@ Imports format time body before now text =
 -- a command with a body is done, and this is printed
 abbrev pub Does : Command → List (List ℕ) → State → State → List ℕ → Type 0
 Does (Import format time) body before now text = Imports format time body before now text
-Does (Query run time expression) body before now text =
-    Answers run (begin run (question_of time expression)) before now text
+Does (Query run time expression) body before now text = Asks run (question_of time expression) before now text
 Does (Run run) body before now text = Answers run (read run) before now text
 Does (End run) body before now text = Answers run (end run) before now text
 Does (Close run) body before now text = Answers run (close run) before now text

@@ -1,17 +1,18 @@
 //! The commands of a script on a machine, each with what it answers.
 
-ghost use Rattle.std.specs.Prelude.{◌≡◌, ◌<◌, ◌^◌, ℕ, List as ListOf, Ok, Err, IfOk, IfErr, OnOk};
-ghost use Rattle.vm_machine.specs.Machine.{Steps, begin, read, end, close, begun, as_answer};
-ghost use Rattle.vm_top.specs.Replay.{question_of, Answers, Accepts, Refuses, Imports};
-ghost use Rattle.vm_top.specs.inner.Playing.{Gathers, IsAsked, IsInRange, Prints};
+ghost use Rattle.std.specs.Prelude.{◌≡◌, ◌<◌, ◌^◌, ℕ, List as ListOf, None, IfOk, IfErr, OnOk};
+ghost use Rattle.vm_machine.specs.Machine.{begin, read, end, close, run_of};
+ghost use Rattle.vm_top.specs.Replay.{question_of, Answers, Asks, Accepts, Refuses, Imports};
+ghost use Rattle.vm_top.specs.inner.Playing.{Gathers, IsInRange, Prints};
 
 use crate::body::Body;
+use crate::query_fault::QueryFault;
 use crate::response::Response;
 use std::alloc::{AllocError, Global};
 use vm_base::List;
 use vm_base::limits::MAX_TIME;
 use vm_labels::Batch;
-use vm_machine::{Machine, Question, Refusal};
+use vm_machine::{Evaluated, Machine, Question, Refusal};
 use vm_script::read_selector;
 
 /// Imports a body by batches, up to the first batch that is refused.
@@ -45,7 +46,8 @@ fn import_all(machine: &mut Machine, batches: List<Batch>) -> Result<(), Refusal
     Ok(())
 }
 
-/// Begins a run of the instant query of an expression.
+/// Begins a run of the instant query of an expression. That the run's number is taken comes before what is
+/// wrong with the query.
 pub fn begin_query(
     alloc: Global,
     machine: &mut Machine,
@@ -54,43 +56,52 @@ pub fn begin_query(
     expression: &str,
 ) -> Response
     ensures answers { (text : ListOf ℕ) → Prints result text
-        → Answers run (begin run (question_of time expression.now)) machine.old machine.new text }
+        → Asks run (question_of time expression.now) machine.old machine.new text }
     ensures small { IsInRange result }
 {
-    match begin(alloc, machine, run, time, expression) {
+    if machine.is_open(run) {
+        return Response::Refused {
+            why: Refusal::RunTaken { run },
+        };
+    }
+    match question_of(alloc, time, expression) {
+        Ok(Ok(question)) => begin(alloc, machine, run, question),
+        Ok(Err(fault)) => Response::BadQuery { fault },
+        Err(AllocError) => Response::Refused {
+            why: Refusal::Memory,
+        },
+    }
+}
+
+/// Begins a run of a question, whose number is free.
+fn begin(alloc: Global, machine: &mut Machine, run: u64, question: Question) -> Response
+    requires free { run_of run machine.old.runs ≡ None }
+    requires time { question.time < 2 ^ 48 }
+    ensures answers { (text : ListOf ℕ) → Prints result text
+        → Answers run (begin run question) machine.old machine.new text }
+    ensures small { IsInRange result }
+{
+    match machine.begin(alloc, run, question) {
         Ok(()) => Response::Begun { run },
         Err(why) => Response::Refused { why },
     }
 }
 
-fn begin(
+/// The question for an expression's series at a time, or what is wrong with it.
+fn question_of(
     alloc: Global,
-    machine: &mut Machine,
-    run: u64,
     time: u64,
     expression: &str,
-) -> Result<(), Refusal>
-    ensures { Steps machine.old (begin run (question_of time expression.now)) machine.new
-        (as_answer (λ _. begun) result) }
-{
-    if machine.is_open(run) {
-        return Err(Refusal::RunTaken { run });
-    }
-    let question = question_of(alloc, time, expression)?;
-    machine.begin(alloc, run, question)
-}
-
-/// The question for an expression's series at a time.
-fn question_of(alloc: Global, time: u64, expression: &str) -> Result<Question, Refusal>
-    ensures asked { IsAsked (question_of time expression.now) result }
-    ensures small { IfOk result (λ question. question.time < 2 ^ 48) }
+) -> Result<Result<Question, QueryFault>, AllocError>
+    ensures value { IfOk result (λ asked. asked ≡ question_of time expression.now) }
+    ensures small { IfOk result (λ asked. IfOk asked (λ question. question.time < 2 ^ 48)) }
 {
     if time > MAX_TIME {
-        return Err(Refusal::BadRange);
+        return Ok(Err(QueryFault::BadRange));
     }
     match read_selector(alloc, expression)? {
-        Some(selector) => Ok(Question { time, selector }),
-        None => Err(Refusal::NotBuilt),
+        Some(selector) => Ok(Ok(Question { time, selector })),
+        None => Ok(Err(QueryFault::NotBuilt)),
     }
 }
 
@@ -112,7 +123,7 @@ pub fn end_run(alloc: Global, machine: &mut Machine, run: u64) -> Response
     ensures small { IsInRange result }
 {
     match machine.end(alloc, run) {
-        Ok((time, values)) => Response::Values { time, values },
+        Ok(Evaluated { time, values }) => Response::Values { time, values },
         Err(why) => Response::Refused { why },
     }
 }

@@ -25,6 +25,7 @@ mod note;
 mod play;
 mod printed;
 mod program;
+mod query_fault;
 mod reply;
 mod response;
 mod short;

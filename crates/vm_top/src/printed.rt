@@ -1,8 +1,9 @@
 //! The lines that the commands of a script print.
 
 ghost use Rattle.std.specs.Prelude.{◌≡◌, ◌≤◌, ◌+◌, ◌++◌, length, codes, decimal};
-ghost use Rattle.vm_top.specs.Printed.{accepted_line, refused_line, refusal_text};
+ghost use Rattle.vm_top.specs.Printed.{accepted_line, bad_query_line, refused_line, refusal_text};
 
+use crate::query_fault::QueryFault;
 use crate::short::{Short, put, put_number};
 use vm_machine::Refusal;
 
@@ -33,7 +34,21 @@ pub fn run_line(run: u64) -> Short
     line
 }
 
-/// The line of a command that was refused.
+/// The line of a query that asks for nothing.
+pub fn bad_query_line(fault: QueryFault) -> Short
+    ensures { result.items ≡ bad_query_line fault }
+{
+    let mut line = Short::new();
+    put(&mut line, b"refused ");
+    match fault {
+        QueryFault::BadRange => put(&mut line, b"bad range"),
+        QueryFault::NotBuilt => put(&mut line, b"not built"),
+    }
+    put(&mut line, b"\n");
+    line
+}
+
+/// The line of a command that the machine refused.
 pub fn refused_line(why: Refusal) -> Short
     ensures { result.items ≡ refused_line why }
 {
@@ -51,8 +66,6 @@ fn put_refusal(line: &mut Short, why: Refusal)
 {
     match why {
         Refusal::PendingFull => put(line, b"pending full"),
-        Refusal::BadRange => put(line, b"bad range"),
-        Refusal::NotBuilt => put(line, b"not built"),
         Refusal::ViewsFull => put(line, b"views full"),
         Refusal::UnknownRun { run } => put_numbered(line, b"unknown run ", run),
         Refusal::RunTaken { run } => put_numbered(line, b"run taken ", run),

@@ -6,7 +6,8 @@ ghost use Rattle.vm_top.specs.inner.Playing.{IsInRange, Writes};
 ghost use Rattle.vm_top.specs.declared.response.Response.TheVariants as response;
 
 use crate::fault::Fault;
-use crate::printed::{accepted_line, refused_line, run_line};
+use crate::printed::{accepted_line, bad_query_line, refused_line, run_line};
+use crate::query_fault::QueryFault;
 use crate::reply::reply;
 use std::alloc::{AllocError, Global};
 use vm_base::List;
@@ -37,7 +38,11 @@ pub enum Response {
     },
     /// A run was closed.
     Closed,
-    /// It was refused.
+    /// A query asks for nothing.
+    BadQuery {
+        fault: QueryFault,
+    },
+    /// The machine refused it.
     Refused {
         why: Refusal,
     },
@@ -67,6 +72,7 @@ pub fn write_response<K: Sink>(
         Response::Complete => write_text(output, b"complete\n"),
         Response::Values { time, values } => write_reply(alloc, output, time, &values),
         Response::Closed => write_text(output, b"closed\n"),
+        Response::BadQuery { fault } => write_text(output, &bad_query_line(fault)),
         Response::Refused { why } => write_text(output, &refused_line(why)),
     }
 }

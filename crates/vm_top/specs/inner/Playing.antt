@@ -6,19 +6,16 @@ use Rattle.vm_lines.specs.Lines.{lines}
 use Rattle.vm_lines.specs.Reading.{to_go}
 use Rattle.vm_labels.specs.declared.row.Row.{Row}
 use Rattle.vm_machine.specs.Batches.{Parted, batches_of, enough, with_more}
-use Rattle.vm_machine.specs.Machine.{State}
-use Rattle.vm_machine.specs.declared.question.Question.{Question}
-use Rattle.vm_machine.specs.declared.refusal.Refusal.{Refusal}
 use Rattle.vm_machine.specs.declared.refusal.Refusal.TheVariants.{Memory as OutOfMemory}
 use Rattle.vm_outside.specs.Outside.{Told, Takes}
 use Rattle.vm_script.specs.declared.command.Command.{Command}
 use Rattle.vm_script.specs.declared.command.Command.TheVariants.{Import}
 use Rattle.vm_script.specs.declared.command.Format.{Format}
 use Rattle.vm_script.specs.Command.{command_of}
-use Rattle.vm_top.specs.Printed.{accepted_line, refused_line}
+use Rattle.vm_top.specs.Printed.{accepted_line, bad_query_line, refused_line}
 use Rattle.vm_top.specs.Promise.{IsTooLong}
 use Rattle.vm_top.specs.Reply.{reply}
-use Rattle.vm_top.specs.Replay.{blank, skipped, Does, Plays, IsPlayedBefore, IsPlayedToBad, replay_promise}
+use Rattle.vm_top.specs.Replay.{State, blank, skipped, Does, Plays, IsPlayedBefore, IsPlayedToBad, replay_promise}
 use Rattle.vm_top.specs.Rows.{or_none}
 use Rattle.vm_top.specs.inner.Said.{said}
 use Rattle.vm_top.specs.Script.{Entry, IsEntry, HasBody, AreWithin, IsCutOff, IsBadAt, lines_after, script_lines}
@@ -125,11 +122,6 @@ CanPlay Usage = ⊥
 CanPlay Output = ⊥
 CanPlay _ = ⊤
 
--- a question is the one that is asked for, unless memory ran out
-abbrev pub IsAsked : Result Question Refusal → Result Question Refusal → Type 0
-IsAsked asked (Err OutOfMemory) = ⊤
-IsAsked asked given = given ≡ asked
-
 -- the commands so far were done, and what they print was written
 pub record HasPlayed (machine : State) (place : Place) (start left before after : Option (List ℕ)) : Type 0 where
   pub entries : List Entry
@@ -161,6 +153,7 @@ Prints response.Read text = text ≡ codes "read\n"
 Prints response.Complete text = text ≡ codes "complete\n"
 Prints (response.Values time values) text = (text ≡ reply time values) ⊎ (text ≡ refused_line OutOfMemory)
 Prints response.Closed text = text ≡ codes "closed\n"
+Prints (response.BadQuery fault) text = text ≡ bad_query_line fault
 Prints (response.Refused why) text = text ≡ refused_line why
 
 -- its time is at most 2^48 - 1

@@ -1,6 +1,5 @@
 use Rattle.std.proofs.Common.{[], refl, sym, subst}
-use Rattle.vm_machine.specs.Machine.{begin}
-use Rattle.vm_top.specs.Replay.{Answers, question_of}
+use Rattle.vm_top.specs.Replay.{Asks, question_of}
 use Rattle.vm_top.specs.inner.Playing.{PlaysCommand}
 use Rattle.vm_top.proofs.PlayLaws.{passes_none}
 use Rattle.vm_top.proofs.TakenLaws.{over_none}
@@ -16,7 +15,7 @@ returns-in-Query-clause-plays g c = λ text prints.
     subst (λ command. PlaysCommand command before now lines lines left left text) (sym c.in-Query.is) (record {
       body = [];
       has = refl;
-      does = subst (λ expression. Answers run (begin run (question_of c.in-Query.time expression)) before now text)
+      does = subst (λ expression. Asks run (question_of c.in-Query.time expression) before now text)
           c.as_str.ensures (c.begin_query.ensures.answers text prints);
       passes = passes_none lines left;
     })
