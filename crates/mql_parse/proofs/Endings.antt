@@ -4,7 +4,7 @@ use Rattle.std.proofs.Common.{ap, ◌∙◌, arith}
 use Rattle.std.proofs.lemmas.Bool.Decides.{nat_tests}
 use Rattle.mql_expr.specs.Tree.{Tree}
 use Rattle.mql_parse.specs.Machine.{Frame, reduce, end, end_with}
-use Rattle.mql_parse.specs.Views.{the_frames}
+use Rattle.mql_parse.specs.inner.Views.{the_frames}
 use Rattle.mql_parse.specs.declared.state.Open.{Open}
 
 not_empty : (x : Open) (xs : List Open) → (length (x ∷ xs) == 0) ≡ false

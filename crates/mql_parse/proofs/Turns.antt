@@ -10,7 +10,7 @@ use Rattle.mql_parse.specs.Grammar.{Spells}
 use Rattle.mql_parse.specs.Machine.{State, moved, step, by, final_of, start}
 use Rattle.mql_parse.specs.declared.fault.Wrong.TheVariants.{Unexpected, TooDeep, NumberTooWide}
 use Rattle.mql_expr.specs.Tree.{Tree}
-use Rattle.mql_parse.specs.Views.{the_fault, Steps}
+use Rattle.mql_parse.specs.inner.Views.{the_fault, Steps}
 use Rattle.mql_parse.specs.declared.state.Open.{Open}
 use Rattle.mql_parse.specs.declared.fault.StepError.{StepError}
 use Rattle.mql_parse.specs.declared.fault.StepError.TheVariants.{Memory, Refused}

@@ -6,8 +6,8 @@ ghost use Rattle.mql_lex.specs.Tokens.{StandsIn};
 ghost use Rattle.mql_lists.specs.Classes.{class_of_word};
 ghost use Rattle.mql_lists.specs.Words.{word_of};
 ghost use Rattle.mql_parse.specs.Machine.{by, complete, by_window as after_window, by_window_wanted as where_window, by_window_read as after_length, by_offset_wanted as where_offset, by_offset_back as where_back};
-ghost use Rattle.mql_parse.specs.Stack.{stack_of};
-ghost use Rattle.mql_parse.specs.Views.{the_before, the_frames, the_measuring, Steps};
+ghost use Rattle.mql_parse.specs.inner.Stack.{stack_of};
+ghost use Rattle.mql_parse.specs.inner.Views.{the_before, the_frames, the_measuring, Steps};
 ghost use Rattle.mql_parse.specs.declared.state.Open.{Open as OpenOf};
 ghost use Rattle.mql_parse.specs.declared.fault.StepError.TheVariants.{Memory};
 

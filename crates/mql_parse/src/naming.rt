@@ -4,8 +4,8 @@ ghost use Rattle.std.specs.Prelude.{◌≡◌, List as ListOf, Some, map};
 ghost use Rattle.mql_expr.specs.Tree.{tree, select as select_tree};
 ghost use Rattle.mql_parse.specs.Grammar.{matching as match_of};
 ghost use Rattle.mql_parse.specs.Machine.{at as state_at, reached, in_operator, within_part, named_for as behind_purpose, by_names_wanted as where_names, in_names as among_names, in_braces as among_braces, primary};
-ghost use Rattle.mql_parse.specs.Stack.{stack_of};
-ghost use Rattle.mql_parse.specs.Views.{the_call, the_frame, the_frames, the_joint, the_purpose, Steps};
+ghost use Rattle.mql_parse.specs.inner.Stack.{stack_of};
+ghost use Rattle.mql_parse.specs.inner.Views.{the_call, the_frame, the_frames, the_joint, the_purpose, Steps};
 ghost use Rattle.mql_parse.specs.declared.state.Open.{Open as OpenOf};
 
 use crate::fault::{StepError, Wrong};

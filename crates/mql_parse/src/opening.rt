@@ -3,8 +3,8 @@
 ghost use Rattle.std.specs.Prelude.{◌≡◌, [], ◌∷◌, ◌==◌, length, nat_lt, true, false, OnOk, IfNone, IfSome, MatchOption};
 ghost use Rattle.mql_parse.specs.Grammar.{deepest};
 ghost use Rattle.mql_parse.specs.Machine.{opened, opens, ends, first_ends};
-ghost use Rattle.mql_parse.specs.Stack.{stack_of};
-ghost use Rattle.mql_parse.specs.Views.{the_frame, the_frames};
+ghost use Rattle.mql_parse.specs.inner.Stack.{stack_of};
+ghost use Rattle.mql_parse.specs.inner.Views.{the_frame, the_frames};
 
 use crate::stack::{MAX_LEVELS, Stack};
 use crate::state::Open;
@@ -14,7 +14,7 @@ use vm_base::List;
 
 impl Stack {
     /// Nothing is open. It takes no memory.
-    #[tactic(auto, unfolding(crate::specs::Stack::stack_of))]
+    #[tactic(auto, unfolding(crate::specs::inner::Stack::stack_of))]
     pub(crate) fn new(alloc: Global) -> Stack
         ensures { stack_of result ≡ [] }
     {
@@ -25,7 +25,7 @@ impl Stack {
     }
 
     /// Opens one more. Memory ends before the count of levels does.
-    #[tactic(auto, unfolding(crate::specs::Stack::stack_of))]
+    #[tactic(auto, unfolding(crate::specs::inner::Stack::stack_of))]
     pub(crate) fn push(&mut self, frame: Open) -> Result<(), AllocError>
         ensures { OnOk result (stack_of self.new ≡ frame ∷ stack_of self.old) }
     {
@@ -39,7 +39,7 @@ impl Stack {
     }
 
     /// Whether nothing is open.
-    #[tactic(auto, unfolding(crate::specs::Stack::stack_of))]
+    #[tactic(auto, unfolding(crate::specs::inner::Stack::stack_of))]
     pub(crate) fn is_empty(&self) -> bool
         ensures { result ≡ (length (stack_of self.now) == 0) }
     {
@@ -47,7 +47,7 @@ impl Stack {
     }
 
     /// Whether one level more may be opened.
-    #[tactic(auto, unfolding(crate::specs::Stack::stack_of))]
+    #[tactic(auto, unfolding(crate::specs::inner::Stack::stack_of))]
     pub(crate) fn has_room(&self) -> bool
         ensures { result ≡ nat_lt (opened (the_frames (stack_of self.now))) deepest }
     {
@@ -69,7 +69,7 @@ impl Stack {
         }
     }
 
-    #[tactic(auto, unfolding(crate::specs::Stack::stack_of))]
+    #[tactic(auto, unfolding(crate::specs::inner::Stack::stack_of))]
     fn innermost_ends(&self, level: u8) -> bool
         ensures { result ≡ first_ends level (the_frames (stack_of self.now)) }
     {
@@ -80,7 +80,7 @@ impl Stack {
     }
 
     /// Takes off the innermost.
-    #[tactic(auto, unfolding(crate::specs::Stack::stack_of))]
+    #[tactic(auto, unfolding(crate::specs::inner::Stack::stack_of))]
     pub(crate) fn pop(&mut self) -> Option<Open>
         ensures { MatchOption result ((stack_of self.old ≡ []) × (stack_of self.new ≡ []))
             (λ frame. stack_of self.old ≡ frame ∷ stack_of self.new) }

@@ -3,8 +3,8 @@
 ghost use Rattle.std.specs.Prelude.{◌≡◌, ◌<◌, ◌∷◌, ℕ, false, true};
 ghost use Rattle.mql_expr.specs.Tree.{tree};
 ghost use Rattle.mql_parse.specs.Machine.{State, at as state_at, opening, wanted, call_of as call_tree, metric as metric_tree, calling as called_tree, by_primary as after_primary, by_regrouped as after_regrouped, by_called as after_called, by_named as after_name, by_grouped as after_grouped};
-ghost use Rattle.mql_parse.specs.Stack.{stack_of};
-ghost use Rattle.mql_parse.specs.Views.{the_call, the_frame, the_frames, the_head, Steps};
+ghost use Rattle.mql_parse.specs.inner.Stack.{stack_of};
+ghost use Rattle.mql_parse.specs.inner.Views.{the_call, the_frame, the_frames, the_head, Steps};
 
 use crate::fault::{StepError, Wrong};
 use crate::reducing::{go_on, whole_call};

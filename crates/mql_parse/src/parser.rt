@@ -8,8 +8,8 @@ ghost use Rattle.mql_lists.specs.Words.{words_of};
 ghost use Rattle.mql_parse.specs.Faults.{IsUnexpected, IsBeyond};
 ghost use Rattle.mql_parse.specs.Grammar.{Spells};
 ghost use Rattle.mql_parse.specs.Machine.{end_with, standing as stands_there};
-ghost use Rattle.mql_parse.specs.Stack.{stack_of};
-ghost use Rattle.mql_parse.specs.Views.{the_before, the_fault, the_frames, the_measuring};
+ghost use Rattle.mql_parse.specs.inner.Stack.{stack_of};
+ghost use Rattle.mql_parse.specs.inner.Views.{the_before, the_fault, the_frames, the_measuring};
 ghost use Rattle.mql_parse.specs.declared.parse_fault.ParseFault.TheVariants.{Unexpected, TooDeep, NumberTooWide};
 
 use crate::fault::{StepError, Wrong};

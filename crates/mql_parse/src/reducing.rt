@@ -3,8 +3,8 @@
 ghost use Rattle.std.specs.Prelude.{◌≡◌, map, IfOk};
 ghost use Rattle.mql_expr.specs.Tree.{tree};
 ghost use Rattle.mql_parse.specs.Machine.{reduce as reduced, ended as ended_tree, calling as called_tree, close_frame, continue_frame, go_on as goes_on, one_more, with_one_more};
-ghost use Rattle.mql_parse.specs.Stack.{stack_of};
-ghost use Rattle.mql_parse.specs.Views.{the_call, the_frame, the_frames, the_head, the_scope, Steps};
+ghost use Rattle.mql_parse.specs.inner.Stack.{stack_of};
+ghost use Rattle.mql_parse.specs.inner.Views.{the_call, the_frame, the_frames, the_head, the_scope, Steps};
 
 use crate::fault::{StepError, Wrong};
 use crate::stack::Stack;

@@ -2,7 +2,7 @@
 
 ghost use Rattle.std.specs.Prelude.{◌≡◌, reverse};
 ghost use Rattle.mql_parse.specs.Machine.{opened};
-ghost use Rattle.mql_parse.specs.Views.{the_frames};
+ghost use Rattle.mql_parse.specs.inner.Views.{the_frames};
 
 use crate::state::Open;
 use vm_base::List;

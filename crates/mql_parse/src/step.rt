@@ -5,8 +5,8 @@ ghost use Rattle.mql_lex.specs.Tokens.{StandsIn};
 ghost use Rattle.mql_lists.specs.Classes.{class_of_word};
 ghost use Rattle.mql_lists.specs.Words.{word_of};
 ghost use Rattle.mql_parse.specs.Machine.{by};
-ghost use Rattle.mql_parse.specs.Stack.{stack_of};
-ghost use Rattle.mql_parse.specs.Views.{the_before, the_frames, Steps};
+ghost use Rattle.mql_parse.specs.inner.Stack.{stack_of};
+ghost use Rattle.mql_parse.specs.inner.Views.{the_before, the_frames, Steps};
 
 use crate::fault::StepError;
 use crate::joining::by_joining;

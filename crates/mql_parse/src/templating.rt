@@ -5,8 +5,8 @@ ghost use Rattle.mql_lex.specs.Tokens.{StandsIn};
 ghost use Rattle.mql_lists.specs.Classes.{class_of_word};
 ghost use Rattle.mql_lists.specs.Words.{word_of};
 ghost use Rattle.mql_parse.specs.Machine.{at as state_at, by, within_part, by_with_read as after_with, by_template_wanted as where_template, by_template_named as after_template, by_template_headed as after_head, in_params as among_params, template_headed};
-ghost use Rattle.mql_parse.specs.Stack.{stack_of};
-ghost use Rattle.mql_parse.specs.Views.{the_frames, the_head, the_scope, the_templating, Steps};
+ghost use Rattle.mql_parse.specs.inner.Stack.{stack_of};
+ghost use Rattle.mql_parse.specs.inner.Views.{the_frames, the_head, the_scope, the_templating, Steps};
 ghost use Rattle.mql_parse.specs.declared.state.Open.{Open as OpenOf};
 
 use crate::fault::{StepError, Wrong};

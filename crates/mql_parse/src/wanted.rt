@@ -9,8 +9,8 @@ ghost use Rattle.mql_lists.specs.declared.class.Class.{Class as ClassOf};
 ghost use Rattle.mql_parse.specs.Machine.{by_wanted as where_wanted, no_more as none_more, head_of};
 ghost use Rattle.mql_parse.specs.Values.{number_of};
 ghost use Rattle.mql_parse.specs.declared.state.Open.{Open as OpenOf};
-ghost use Rattle.mql_parse.specs.Stack.{stack_of};
-ghost use Rattle.mql_parse.specs.Views.{the_frames, the_head, Steps};
+ghost use Rattle.mql_parse.specs.inner.Stack.{stack_of};
+ghost use Rattle.mql_parse.specs.inner.Views.{the_frames, the_head, Steps};
 
 use crate::fault::{StepError, Wrong};
 use crate::operand::open_level;

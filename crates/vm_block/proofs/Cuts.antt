@@ -9,7 +9,7 @@ use Rattle.std.specs.Prelude.{⊤}
 use Rattle.vm_base.specs.declared.stamped.Stamped.{Stamped}
 use Rattle.vm_block.specs.Block.{values_of}
 use Rattle.vm_block.specs.Cut.{share_exponent, fit_one_block, joined, AreFull}
-use Rattle.vm_block.specs.Reading.{IsShared, join_of, Joined}
+use Rattle.vm_block.specs.inner.Reading.{IsShared, join_of, Joined}
 use Rattle.vm_block.specs.declared.shared.Shared.{Shared}
 use Rattle.vm_block.proofs.Exponents.{shared_shares, joins}
 

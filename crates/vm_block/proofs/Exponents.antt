@@ -13,7 +13,7 @@ use Rattle.vm_base.proofs.NumberLaws.{int_eq-signed, number-form_of}
 use Rattle.vm_base.proofs.SampleLaws.{IsSampleForm-form_of}
 use Rattle.vm_block.specs.Block.{own_shift, lesser, least_shift, common_shift}
 use Rattle.vm_block.specs.Cut.{share_exponent}
-use Rattle.vm_block.specs.Reading.{greatest_size, IsShared, raise_of, join_of, Joined}
+use Rattle.vm_block.specs.inner.Reading.{greatest_size, IsShared, raise_of, join_of, Joined}
 use Rattle.vm_block.specs.declared.shared.Shared.{Shared}
 
 -- ---- least exponents

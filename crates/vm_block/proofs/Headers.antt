@@ -11,7 +11,7 @@ use Rattle.vm_codec.specs.Coding.{coding_number, coding_of, in_bounds}
 use Rattle.vm_codec.specs.declared.coding.Coding.{Coding}
 use Rattle.vm_codec.specs.declared.coding.Coding.TheVariants.{DeltaConst, Const, NearestDelta2, NearestDelta}
 use Rattle.vm_block.specs.Header.{is_count, is_exponent, is_time, is_last_time, is_column_len, IsHeader, header_bytes, field, field_rules, len_rules, first_broken}
-use Rattle.vm_block.specs.Reading.{AreFields}
+use Rattle.vm_block.specs.inner.Reading.{AreFields}
 use Rattle.vm_block.specs.declared.header.BlockHeader.{BlockHeader}
 
 -- ---- rules

@@ -18,7 +18,7 @@ use Rattle.vm_base.specs.declared.stamped.Stamped.{Stamped}
 use Rattle.vm_codec.specs.Coding.{IsInBounds}
 use Rattle.vm_block.specs.Block.{own_shift, lesser, least_shift, common_shift, times_of, values_of}
 use Rattle.vm_block.specs.Cut.{has_18_digits, share_exponent}
-use Rattle.vm_block.specs.Reading.{raised_by}
+use Rattle.vm_block.specs.inner.Reading.{raised_by}
 use Rattle.vm_block.proofs.Cuts.{values_more}
 
 -- ---- one value

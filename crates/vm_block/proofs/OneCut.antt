@@ -12,7 +12,7 @@ use Rattle.vm_base.specs.Number.{form_of}
 use Rattle.vm_base.specs.declared.stamped.Stamped.{Stamped}
 use Rattle.vm_block.specs.Block.{own_shift, lesser, least_shift, common_shift, values_of}
 use Rattle.vm_block.specs.Cut.{share_exponent, fit_one_block, joined, AreFull, IsCut}
-use Rattle.vm_block.specs.Reading.{greatest_size}
+use Rattle.vm_block.specs.inner.Reading.{greatest_size}
 use Rattle.vm_block.proofs.Exponents.{least-append, greatest-append, share_by_greatest}
 
 -- ---- the front of what fits fits

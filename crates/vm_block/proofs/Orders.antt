@@ -10,7 +10,7 @@ use Rattle.vm_base.specs.Stamped.{is_in_order}
 use Rattle.vm_base.specs.declared.stamped.Stamped.{Stamped}
 use Rattle.vm_base.proofs.StampedLaws.{stamped_order}
 use Rattle.vm_block.specs.Block.{rise_from}
-use Rattle.vm_block.specs.Reading.{never_falls}
+use Rattle.vm_block.specs.inner.Reading.{never_falls}
 
 -- ---- order
 

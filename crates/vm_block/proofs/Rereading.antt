@@ -13,7 +13,7 @@ use Rattle.vm_base.specs.declared.stamped.Stamped.{Stamped}
 use Rattle.vm_codec.specs.Coding.{chosen, spelling}
 use Rattle.vm_block.specs.Block.{times_of, values_of, scaled_by, common_exponent, IsBlock}
 use Rattle.vm_block.specs.Header.{IsHeader, header_bytes}
-use Rattle.vm_block.specs.Reading.{AreFields}
+use Rattle.vm_block.specs.inner.Reading.{AreFields}
 use Rattle.vm_block.specs.Written.{IsWritten}
 use Rattle.vm_block.specs.declared.header.BlockHeader.{BlockHeader}
 use Rattle.vm_block.proofs.Headers.{fields_again, one_header}

@@ -11,7 +11,7 @@ use Rattle.std.specs.Ordering.{int_eq}
 use Rattle.vm_base.specs.Sample.{is_sample, sample_of}
 use Rattle.vm_base.specs.declared.stamped.Stamped.{Stamped}
 use Rattle.vm_block.specs.Block.{scaled_by, times_of, values_of}
-use Rattle.vm_block.specs.Reading.{AreStamped}
+use Rattle.vm_block.specs.inner.Reading.{AreStamped}
 
 -- ---- one mantissa
 

@@ -15,7 +15,7 @@ use Rattle.vm_codec.specs.Coding.{IsColumn, IsInBounds, in_bounds, chosen}
 use Rattle.vm_block.specs.Block.{times_of, values_of, rise_from, scaled_by, common_shift, common_exponent}
 use Rattle.vm_block.specs.Cut.{AreOneBlock, fit_one_block}
 use Rattle.vm_block.specs.Header.{is_count, is_exponent, is_time, is_last_time, is_column_len, header_bytes}
-use Rattle.vm_block.specs.Reading.{raised_by}
+use Rattle.vm_block.specs.inner.Reading.{raised_by}
 use Rattle.vm_block.specs.Written.{IsWritten}
 use Rattle.vm_block.specs.declared.header.BlockHeader.{BlockHeader}
 use Rattle.vm_block.proofs.Blocks.{moved_column}

@@ -1,5 +1,5 @@
 pub mod Block
 pub mod Cut
 pub mod Header
-pub mod Reading
 pub mod Written
+pub mod inner

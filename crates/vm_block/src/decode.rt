@@ -8,7 +8,7 @@ ghost use Rattle.vm_base.specs.declared.stamped.Stamped.{Stamped};
 ghost use Rattle.vm_codec.specs.Coding.{IsColumn, IsInBounds};
 ghost use Rattle.vm_block.specs.Header.{IsHeader};
 ghost use Rattle.vm_block.specs.Block.{IsBlock, IsRefusal, Reads, SaysTimes, SaysMantissas, EndsAtLast, rise_from, scaled_by, are_values, times_of, values_of};
-ghost use Rattle.vm_block.specs.Reading.{AreStamped, IsColumnFault};
+ghost use Rattle.vm_block.specs.inner.Reading.{AreStamped, IsColumnFault};
 
 use crate::samples::{are_in_order, common_exponent};
 use crate::{BlockFault, BlockHeader};

@@ -7,7 +7,7 @@ ghost use Rattle.vm_codec.specs.Coding.{IsColumn, IsInBounds, chosen};
 ghost use Rattle.vm_block.specs.Block.{common_shift as shift_of_all, own_shift, lesser, times_of, values_of};
 ghost use Rattle.vm_block.specs.Cut.{AreOneBlock, has_18_digits, share_exponent};
 ghost use Rattle.vm_block.specs.Header.{header_bytes};
-ghost use Rattle.vm_block.specs.Reading.{raised_by};
+ghost use Rattle.vm_block.specs.inner.Reading.{raised_by};
 ghost use Rattle.vm_block.specs.Written.{IsWritten};
 
 use crate::header::{BlockHeader, HEADER_LEN, write_header};

@@ -2,7 +2,7 @@
 ghost use Rattle.std.specs.Prelude.{◌≡◌, ◌≤◌, ◌+◌, true, false, Some, None, Ok, IfOk, IfErr, OnOk, slice_index, length, take, ◌++◌};
 ghost use Rattle.std.specs.Int.{w16, w32, w64, from_be_bytes};
 ghost use Rattle.vm_codec.specs.Coding.{coding_of, in_bounds};
-ghost use Rattle.vm_block.specs.Reading.{AreFields};
+ghost use Rattle.vm_block.specs.inner.Reading.{AreFields};
 ghost use Rattle.vm_block.specs.Header.{IsHeader, header_bytes, field_rules, len_rules, first_broken, field, is_count, is_exponent, is_time, is_last_time, is_column_len};
 
 use vm_base::Broken;

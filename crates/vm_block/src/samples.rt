@@ -5,7 +5,7 @@ ghost use Rattle.vm_base.specs.Sorted.{IsUp};
 ghost use Rattle.vm_base.specs.Stamped.{is_in_order};
 ghost use Rattle.vm_block.specs.Block.{common_exponent as exponent_of, common_shift as shift_of_all, own_shift as own_of, lesser as lesser_of, values_of};
 ghost use Rattle.vm_block.specs.Cut.{AreOneBlock, fit_one_block};
-ghost use Rattle.vm_block.specs.Reading.{never_falls, InShifts};
+ghost use Rattle.vm_block.specs.inner.Reading.{never_falls, InShifts};
 
 use crate::cutting::block_len;
 use vm_base::limits::MAX_TIME;

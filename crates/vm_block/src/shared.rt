@@ -1,6 +1,6 @@
 //! The exponent that values share, and whether each keeps its 18 digits at it.
 ghost use Rattle.std.specs.Prelude.{◌≡◌, ◌∷◌, [], ◌+◌, ◌-◌, ◌*◌, ◌^◌, ◌<◌, ◌≤◌, nat_lt, if◌then◌else◌, Some, None};
-ghost use Rattle.vm_block.specs.Reading.{IsShared, raise_of, join_of};
+ghost use Rattle.vm_block.specs.inner.Reading.{IsShared, raise_of, join_of};
 
 use crate::samples::shift_of;
 use vm_base::Sample;

@@ -7,7 +7,7 @@ use Rattle.std.specs.Result.{OnOk, IfErr}
 use Rattle.vm_base.specs.declared.broken.Broken.{Broken}
 use Rattle.vm_codec.specs.Integer.{unzigzag}
 use Rattle.vm_codec.specs.Coding.{IsInBounds, spelling, Suits, SuitsSoFar, IsColumn, IsBegun, IsBroken}
-use Rattle.vm_codec.specs.Reading.{number_at, steps_by, steps_then, steps_from, onto, column_at, is_const, all_read, decoded}
+use Rattle.vm_codec.specs.inner.Reading.{number_at, steps_by, steps_then, steps_from, onto, column_at, is_const, all_read, decoded}
 use Rattle.vm_codec.specs.declared.coding.Coding.{Coding}
 use Rattle.vm_codec.specs.declared.coding.Coding.TheVariants.{DeltaConst, Const, NearestDelta2, NearestDelta}
 use Rattle.vm_codec.proofs.Integers.{AreBytes}

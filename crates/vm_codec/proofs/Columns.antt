@@ -4,7 +4,7 @@ use Rattle.std.specs.List.{AllByRecursion, flat_map}
 use Rattle.std.proofs.lemmas.Int.{ints}
 use Rattle.vm_codec.specs.Integer.{integer}
 use Rattle.vm_codec.specs.Coding.{IsInBounds, differences, spelling}
-use Rattle.vm_codec.specs.Reading.{next_at, values_at, lean_after, onto, then_more}
+use Rattle.vm_codec.specs.inner.Reading.{next_at, values_at, lean_after, onto, then_more}
 use Rattle.vm_codec.specs.declared.coding.Coding.{Coding}
 use Rattle.vm_codec.specs.declared.coding.Coding.TheVariants.{DeltaConst, Const, NearestDelta2, NearestDelta}
 use Rattle.vm_codec.proofs.Integers.{AreBytes, IsNext, next_takes, next_again}

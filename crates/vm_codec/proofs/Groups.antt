@@ -3,7 +3,7 @@ use Rattle.std.proofs.Common.{◌≡◌, ℕ, zero, suc, add-one, ◌⊎◌, ◌
 use Rattle.std.specs.Option.{option_and_then}
 use Rattle.std.proofs.Math.Nat.{pow-suc, pow-le-pow_right, mul-le-mul_right}
 use Rattle.std.proofs.lemmas.Bool.{cases_lt, lt-ltb, le-ltb, and_left, and_right, ne_eqb}
-use Rattle.vm_codec.specs.Reading.{groups_at, number_at, behind, in_64_bits}
+use Rattle.vm_codec.specs.inner.Reading.{groups_at, number_at, behind, in_64_bits}
 
 -- a byte that isn't the last of its number
 pub groups_at-more : (more byte : ℕ) (bytes : List ℕ) → 128 ≤ byte

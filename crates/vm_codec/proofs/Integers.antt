@@ -9,7 +9,7 @@ use Rattle.std.proofs.lemmas.Option.{option_and_then_some}
 use Rattle.std.proofs.lemmas.Int.{ints}
 use Rattle.vm_codec.specs.Integer.{zigzag, unzigzag, groups, integer}
 use Rattle.vm_codec.specs.Coding.{IsInBounds, in_bounds}
-use Rattle.vm_codec.specs.Reading.{groups_at, number_at, in_64_bits, bounded, next_at}
+use Rattle.vm_codec.specs.inner.Reading.{groups_at, number_at, in_64_bits, bounded, next_at}
 use Rattle.vm_codec.proofs.Groups.{groups_at-last, groups_at-more}
 
 -- ---- bytes

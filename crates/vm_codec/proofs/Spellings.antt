@@ -3,7 +3,7 @@ use Rattle.std.proofs.Common.{◌≡◌, ◌⊎◌, ℕ, ℤ, ◌-◌, ◌≤◌
 use Rattle.std.proofs.lemmas.Bool.{cases_order}
 use Rattle.std.proofs.lemmas.List.{append-nil}
 use Rattle.vm_codec.specs.Coding.{spelling, Suits, SuitsSoFar, IsColumn, IsBegun, IsBroken}
-use Rattle.vm_codec.specs.Reading.{onto, column_at}
+use Rattle.vm_codec.specs.inner.Reading.{onto, column_at}
 use Rattle.vm_codec.specs.declared.coding.Coding.{Coding}
 use Rattle.vm_codec.specs.declared.coding.Coding.TheVariants.{DeltaConst, Const, NearestDelta2, NearestDelta}
 use Rattle.vm_codec.proofs.Columns.{is_ok_of, same_ok}

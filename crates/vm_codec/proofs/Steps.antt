@@ -8,7 +8,7 @@ use Rattle.std.proofs.lemmas.Bool.Decides.{Decides-int_eq}
 use Rattle.std.proofs.lemmas.Int.{ints}
 use Rattle.std.proofs.lemmas.Option.{option_and_then_some}
 use Rattle.vm_codec.specs.Coding.{IsInBounds, differences}
-use Rattle.vm_codec.specs.Reading.{bounded, steps_from}
+use Rattle.vm_codec.specs.inner.Reading.{bounded, steps_from}
 use Rattle.vm_codec.proofs.Integers.{bounded_some, bounded_again, same_some}
 use Rattle.vm_codec.proofs.Values.{one_step, steps_zero}
 

@@ -8,7 +8,7 @@ use Rattle.std.proofs.lemmas.Bool.{eq-eqb, ne_eqb}
 use Rattle.std.proofs.lemmas.Int.{ints}
 use Rattle.vm_codec.specs.Integer.{unzigzag}
 use Rattle.vm_codec.specs.declared.coding.Coding.TheVariants.{DeltaConst, Const, NearestDelta2, NearestDelta}
-use Rattle.vm_codec.specs.Reading.{decoded, is_const, number_at, column_at, steps_then, bounded, steps_from, values_at, next_at, lean_after, onto, all_read}
+use Rattle.vm_codec.specs.inner.Reading.{decoded, is_const, number_at, column_at, steps_then, bounded, steps_from, values_at, next_at, lean_after, onto, all_read}
 
 -- a value written at the first place
 pub take_first : (into : List ℤ) (value : ℤ) → 1 ≤ length into → take 1 (set into 0 value) ≡ value ∷ []

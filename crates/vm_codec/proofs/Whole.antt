@@ -8,7 +8,7 @@ use Rattle.std.proofs.lemmas.Bool.Decides.{Decides-int_eq}
 use Rattle.std.proofs.lemmas.List.{length-replicate, append-nil}
 use Rattle.vm_codec.specs.Integer.{integer, groups, zigzag, unzigzag}
 use Rattle.vm_codec.specs.Coding.{IsInBounds, differences, spelling, are_equal, Suits, IsColumn}
-use Rattle.vm_codec.specs.Reading.{number_at, steps_from, values_at, onto, steps_by, steps_then, column_at, is_const, all_read, decoded}
+use Rattle.vm_codec.specs.inner.Reading.{number_at, steps_from, values_at, onto, steps_by, steps_then, column_at, is_const, all_read, decoded}
 use Rattle.vm_codec.specs.declared.coding.Coding.{Coding}
 use Rattle.vm_codec.specs.declared.coding.Coding.TheVariants.{DeltaConst, Const, NearestDelta2, NearestDelta}
 use Rattle.vm_codec.proofs.Integers.{AreBytes, difference_fits, number_takes, number_again, zigzag-unzigzag, unzigzag-zigzag}

@@ -5,7 +5,7 @@ use Rattle.std.proofs.lemmas.Nat.{div_below}
 use Rattle.std.proofs.Math.Seq.{drop-cons}
 use Rattle.std.proofs.lemmas.Int.{ints}
 use Rattle.vm_codec.specs.declared.coding.Coding.{Coding}
-use Rattle.vm_codec.specs.Reading.{lean_after}
+use Rattle.vm_codec.specs.inner.Reading.{lean_after}
 use Rattle.vm_codec.proofs.Columns.{spelled_from}
 use Rattle.std.proofs.lemmas.List.{append-nil, drop_all, take_more_set, drop-set-lt, drop-drop, length-append}
 use Rattle.vm_codec.specs.Integer.{groups, integer}

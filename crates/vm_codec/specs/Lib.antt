@@ -1,3 +1,3 @@
 pub mod Coding
 pub mod Integer
-pub mod Reading
+pub mod inner

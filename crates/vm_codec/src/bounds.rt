@@ -1,7 +1,7 @@
 //! The bounds that each value of a column keeps.
 ghost use Rattle.std.specs.Prelude.{◌↔◌, IsTrue, All, ◌≡◌, IfSome, ◌+ℤ◌};
 ghost use Rattle.vm_codec.specs.Coding.{in_bounds as is_inside, IsInBounds};
-ghost use Rattle.vm_codec.specs.Reading.{bounded};
+ghost use Rattle.vm_codec.specs.inner.Reading.{bounded};
 
 /// 10^18: the values lie strictly between this and the same below zero.
 const BOUND: i64 = 1_000_000_000_000_000_000;

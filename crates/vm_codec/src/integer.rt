@@ -3,7 +3,7 @@
 ghost use Rattle.std.specs.Prelude.{◌≡◌, IfSome, ◌^◌, ◌+◌, ◌≤◌, ◌<◌, ◌++◌, length, take, drop};
 ghost use Rattle.std.specs.Option.{option_map};
 ghost use Rattle.vm_codec.specs.Integer.{groups};
-ghost use Rattle.vm_codec.specs.Reading.{number_at, groups_at, behind, in_64_bits};
+ghost use Rattle.vm_codec.specs.inner.Reading.{number_at, groups_at, behind, in_64_bits};
 
 /// What the tenth group of a number is worth.
 const LAST: u64 = 1 << 63;

@@ -3,7 +3,7 @@ ghost use Rattle.std.specs.Prelude.{◌≡◌, ◌==◌, ◌&&◌, not, ◌*◌,
 ghost use Rattle.std.specs.Option.{option_map};
 ghost use Rattle.vm_codec.specs.Coding.{IsColumn, IsBroken, IsInBounds};
 ghost use Rattle.vm_codec.specs.declared.coding.Coding.TheVariants.{DeltaConst};
-ghost use Rattle.vm_codec.specs.Reading.{decoded, is_const, column_at, values_at, next_at, steps_from, lean_after as lean_of, onto, all_read};
+ghost use Rattle.vm_codec.specs.inner.Reading.{decoded, is_const, column_at, values_at, next_at, steps_from, lean_after as lean_of, onto, all_read};
 
 use crate::Coding;
 use crate::bounds::bounded_sum;
@@ -96,7 +96,7 @@ pub(crate) fn lean_after(coding: Coding, difference: i64) -> i64
 }
 
 /// The value after this one, and the bytes after its integer.
-#[tactic(auto, unfolding(crate::specs::Reading::next_at))]
+#[tactic(auto, unfolding(crate::specs::inner::Reading::next_at))]
 fn next_value(value: i64, lean: i64, bytes: &[u8]) -> Option<(i64, &[u8])>
     requires bound { IsInBounds value }
     requires lean { unsigned_abs lean < 2 * 10 ^ 18 }

@@ -2,7 +2,7 @@
 ghost use Rattle.std.specs.Prelude.{◌≡◌, ◌+◌, ◌*◌, ◌≤◌, ◌++◌, ◌∷◌, ◌&&◌, ◌==◌, length, take, drop, slice_get, Some, All, ℤ, ◌⊎◌, ◌<◌, ◌^◌, ◌-ℤ◌, unsigned_abs};
 ghost use Rattle.vm_codec.specs.Coding.{IsColumn, IsInBounds, chosen, spelling};
 ghost use Rattle.vm_codec.specs.Integer.{zigzag as zigzag_of};
-ghost use Rattle.vm_codec.specs.Reading.{lean_after as lean_of};
+ghost use Rattle.vm_codec.specs.inner.Reading.{lean_after as lean_of};
 ghost use Rattle.vm_codec.specs.declared.coding.Coding.TheVariants.{NearestDelta2, NearestDelta};
 
 use crate::Coding;

@@ -14,7 +14,7 @@ use Rattle.vm_base.proofs.NumberLaws.{is_negative-form, int_eq-signed, signed-ze
 use Rattle.vm_base.proofs.RoundingLaws.{IsNearest-one, nearest-IsNearest}
 use Rattle.vm_decimal.specs.Arithmetic.{differ, nearest_quotient, scaled_dividend, if_scaled, remainder, quotient9, nearest_multiple}
 use Rattle.vm_decimal.specs.Dec.{IsDecForm, in_range, dec_of}
-use Rattle.vm_decimal.specs.Division.{IsAligned}
+use Rattle.vm_decimal.specs.inner.Division.{IsAligned}
 use Rattle.vm_decimal.specs.Parts.{whole}
 use Rattle.vm_decimal.specs.declared.division.Aligned.{Aligned}
 use Rattle.vm_decimal.specs.declared.parts.Scaled.{Scaled}

@@ -9,9 +9,9 @@ use Rattle.vm_base.specs.Run.{run}
 use Rattle.vm_base.proofs.NumberLaws.{stripped_whole, stripped_last, stripped_few}
 use Rattle.vm_decimal.specs.Dec.{dec_of}
 use Rattle.vm_decimal.specs.DecText.{dec_value, dec_reading, or_too_wide, dec_valued}
-use Rattle.vm_decimal.specs.Exact.{IsWide, IsExact}
+use Rattle.vm_decimal.specs.inner.Exact.{IsWide, IsExact}
 use Rattle.vm_decimal.specs.NumberMachine.{State, symbol_of, next, may_end, step, start, spelled}
-use Rattle.vm_decimal.specs.Reader.{IsCapped, Stands}
+use Rattle.vm_decimal.specs.inner.Reader.{IsCapped, Stands}
 use Rattle.vm_decimal.specs.SampleReading.{number_reading}
 use Rattle.vm_decimal.specs.Spelled.{Spelled, IsNumber}
 use Rattle.vm_decimal.specs.declared.exact.Exact.{Exact}

@@ -13,7 +13,7 @@ use Rattle.vm_base.specs.Number.{signed}
 use Rattle.vm_base.specs.Sample.{sample_of}
 use Rattle.vm_decimal.specs.Dec.{dec_of}
 use Rattle.vm_decimal.specs.DecText.{dec_reading}
-use Rattle.vm_decimal.specs.Quick.{BeginsQuick, FewDigits, SignedPower, QuickPower, QuickValue, SpellsQuick}
+use Rattle.vm_decimal.specs.inner.Quick.{BeginsQuick, FewDigits, SignedPower, QuickPower, QuickValue, SpellsQuick}
 use Rattle.vm_decimal.specs.Rounded.{sample_value}
 use Rattle.vm_decimal.specs.SampleReading.{number_reading, valued}
 use Rattle.vm_decimal.specs.Spelled.{IsDigits, IsSign}

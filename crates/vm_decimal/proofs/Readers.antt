@@ -6,7 +6,7 @@ use Rattle.std.proofs.lemmas.List.{take_more, take-append-drop, length-take-le}
 use Rattle.vm_base.specs.Run.{run}
 use Rattle.vm_base.proofs.RunLaws.{run-append, reading-stuck, reading-end}
 use Rattle.vm_decimal.specs.NumberMachine.{symbol_of, next, may_end, State, taken, step, final, start, spelled}
-use Rattle.vm_decimal.specs.Reader.{Stands}
+use Rattle.vm_decimal.specs.inner.Reader.{Stands}
 use Rattle.vm_decimal.specs.SampleReading.{number_reading}
 use Rattle.vm_decimal.specs.declared.number_machine.Phase.{Phase}
 use Rattle.vm_decimal.specs.declared.number_machine.Phase.TheVariants.{Start}

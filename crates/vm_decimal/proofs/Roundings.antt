@@ -8,7 +8,7 @@ use Rattle.std.proofs.lemmas.Nat.{div-add-mod'}
 use Rattle.vm_base.specs.Form.{ten_pos, tens}
 use Rattle.vm_base.specs.Rounding.{nearest}
 use Rattle.vm_base.proofs.RoundingLaws.{IsNearest, IsNearest-whole, IsNearest-next, IsNearest-one, nearest-IsNearest}
-use Rattle.vm_decimal.specs.Leading.{Leads, IsRounding, tenth_of}
+use Rattle.vm_decimal.specs.inner.Leading.{Leads, IsRounding, tenth_of}
 use Rattle.vm_decimal.specs.Rounded.{surplus_within, surplus}
 use Rattle.vm_decimal.specs.declared.leading.Leading.{Leading}
 

@@ -10,9 +10,9 @@ use Rattle.vm_base.specs.Number.{signed, number, stripped}
 use Rattle.vm_base.specs.Sample.{sample_of}
 use Rattle.vm_base.proofs.NumberLaws.{stripped_whole, stripped_last, stripped_few, signed-zero}
 use Rattle.vm_base.proofs.SampleLaws.{sample_of-placed, sample_of-zero}
-use Rattle.vm_decimal.specs.Leading.{IsRounding}
+use Rattle.vm_decimal.specs.inner.Leading.{IsRounding}
 use Rattle.vm_decimal.specs.NumberMachine.{State, spelled}
-use Rattle.vm_decimal.specs.Reader.{IsCapped, Stands}
+use Rattle.vm_decimal.specs.inner.Reader.{IsCapped, Stands}
 use Rattle.vm_decimal.specs.Rounded.{rounded, sample_of_digits, sample_value}
 use Rattle.vm_decimal.specs.Spelled.{Spelled}
 use Rattle.vm_decimal.specs.declared.reader.Reader.{Reader}

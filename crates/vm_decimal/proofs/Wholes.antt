@@ -9,7 +9,7 @@ use Rattle.std.specs.Int.{int_rem_euclid}
 use Rattle.vm_base.specs.Form.{ten_pos}
 use Rattle.vm_base.specs.Number.{signed, number}
 use Rattle.vm_decimal.specs.Arithmetic.{ones, floor_of, ceil_of}
-use Rattle.vm_decimal.specs.Division.{cut}
+use Rattle.vm_decimal.specs.inner.Division.{cut}
 use Rattle.vm_decimal.proofs.Decs.{noughts_add}
 use Rattle.vm_decimal.proofs.Divisions.{mod_times}
 

@@ -1,12 +1,12 @@
 //! What the text of a number says.
 ghost use Rattle.std.specs.Prelude.{◌≡◌, ◌↔◌, ℕ, ℤ, ◌+◌, ◌<◌, ◌^◌, pos, ◌+ℤ◌, ◌-ℤ◌, unsigned_abs, Ok, Err, IfSome, IsTrue};
-ghost use Rattle.vm_decimal.specs.Exact.{IsCounted};
+ghost use Rattle.vm_decimal.specs.inner.Exact.{IsCounted};
 ghost use Rattle.vm_base.specs.FirstWrong.{FirstWrong};
 ghost use Rattle.vm_base.specs.Number.{signed};
 ghost use Rattle.vm_decimal.specs.Dec.{dec_of, is_dec};
 ghost use Rattle.vm_decimal.specs.DecText.{SaysNumber, IsBeyond, dec_value, dec_reading, or_too_wide};
 ghost use Rattle.vm_decimal.specs.NumberMachine.{State, spelled};
-ghost use Rattle.vm_decimal.specs.Reader.{Stands};
+ghost use Rattle.vm_decimal.specs.inner.Reader.{Stands};
 ghost use Rattle.vm_decimal.specs.NumberText.{number_text};
 ghost use Rattle.vm_decimal.specs.SampleReading.{number_reading};
 ghost use Rattle.vm_decimal.specs.Spelled.{Spelled, IsAnyNumber};

@@ -5,7 +5,7 @@ ghost use Rattle.vm_base.specs.Rounding.{nearest as nearest_to};
 ghost use Rattle.vm_decimal.specs.Arithmetic.{remainder, quotient9, nearest_multiple, if_scaled, nearest_quotient};
 ghost use Rattle.vm_decimal.specs.ArithmeticLaws.{IsRest, IsQuotient9};
 ghost use Rattle.vm_decimal.specs.Dec.{IsDecForm, in_range, dec_of};
-ghost use Rattle.vm_decimal.specs.Division.{IsAligned};
+ghost use Rattle.vm_decimal.specs.inner.Division.{IsAligned};
 ghost use Rattle.vm_decimal.specs.Parts.{value, whole};
 
 use crate::dec::{Dec, Range, SIZES, or_range, placed, placed_up};

@@ -1,8 +1,8 @@
 //! The digits of a number, exactly.
 ghost use Rattle.std.specs.Prelude.{◌≡◌, ℕ, ◌+◌, ◌*◌, ◌<◌, ◌≤◌, ◌^◌, Ok, length};
-ghost use Rattle.vm_decimal.specs.Exact.{IsExact};
+ghost use Rattle.vm_decimal.specs.inner.Exact.{IsExact};
 ghost use Rattle.vm_decimal.specs.NumberMachine.{State, taken};
-ghost use Rattle.vm_decimal.specs.Reader.{IsSmall};
+ghost use Rattle.vm_decimal.specs.inner.Reader.{IsSmall};
 ghost use Rattle.vm_decimal.specs.SampleReading.{number_reading};
 ghost use Rattle.vm_decimal.specs.Spelled.{Spelled};
 

@@ -1,6 +1,6 @@
 //! The first digits of a number, as many as its rounding needs.
 ghost use Rattle.std.specs.Prelude.{◌≡◌, ℕ, ◌+◌, ◌*◌, ◌<◌, ◌≤◌, ◌^◌};
-ghost use Rattle.vm_decimal.specs.Leading.{Leads, IsRounding, tenth_of};
+ghost use Rattle.vm_decimal.specs.inner.Leading.{Leads, IsRounding, tenth_of};
 
 /// 10^18, which is above each size of at most 18 digits.
 const SIZES: u64 = 1_000_000_000_000_000_000;

@@ -4,7 +4,7 @@ ghost use Rattle.std.specs.Prelude.{◌≡◌, ◌+◌, ◌*◌, ◌^◌, ◌<�
 ghost use Rattle.std.specs.Str.Parse.{digits_value, digits_value_after};
 ghost use Rattle.vm_base.specs.Number.{signed};
 ghost use Rattle.vm_base.specs.Sample.{sample_of as sample_for};
-ghost use Rattle.vm_decimal.specs.Quick.{IsSignedBy, BeginsQuick, QuickValue, SpellsQuick, QuickPower, SignedPower, FewDigits};
+ghost use Rattle.vm_decimal.specs.inner.Quick.{IsSignedBy, BeginsQuick, QuickValue, SpellsQuick, QuickPower, SignedPower, FewDigits};
 ghost use Rattle.vm_decimal.specs.SampleReading.{number_reading, valued};
 ghost use Rattle.vm_decimal.specs.Spelled.{IsDigits};
 

@@ -2,7 +2,7 @@
 ghost use Rattle.std.specs.Prelude.{◌≡◌, ℕ, ◌+◌, ◌*◌, ◌<◌, ◌≤◌, ◌^◌, Ok, Err, IfOk, IfErr, length, pos, ◌≤ℤ◌, ◌-ℤ◌};
 ghost use Rattle.vm_base.specs.Number.{signed};
 ghost use Rattle.vm_decimal.specs.NumberMachine.{State, taken, step as step_of, spelled};
-ghost use Rattle.vm_decimal.specs.Reader.{Stands, Counts, IsSmall, IsCapped, Steps, Reached};
+ghost use Rattle.vm_decimal.specs.inner.Reader.{Stands, Counts, IsSmall, IsCapped, Steps, Reached};
 ghost use Rattle.vm_decimal.specs.Rounded.{sample_value, sample_of_digits};
 ghost use Rattle.vm_decimal.specs.SampleReading.{number_reading};
 

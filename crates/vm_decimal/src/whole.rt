@@ -2,7 +2,7 @@
 ghost use Rattle.std.specs.Prelude.{◌≡◌, ◌*◌, ◌/◌, ◌%◌, ◌^◌, ◌<◌};
 ghost use Rattle.vm_base.specs.Number.{signed};
 ghost use Rattle.vm_decimal.specs.Arithmetic.{floor_of, ceil_of, ones};
-ghost use Rattle.vm_decimal.specs.Division.{cut as cut_of};
+ghost use Rattle.vm_decimal.specs.inner.Division.{cut as cut_of};
 
 use crate::dec::{Dec, of_parts};
 use crate::parts::{Parts, wide_power_of_ten, without_noughts};

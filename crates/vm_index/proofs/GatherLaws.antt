@@ -8,7 +8,7 @@ use Rattle.vm_labels.specs.Labels.{pair_cmp, pair_eq, is_in_pair_order}
 use Rattle.vm_labels.specs.declared.pair.Pair.{Pair}
 use Rattle.vm_labels.proofs.OrderLaws.{pair_eq-Decides, pairs_tied, pair_cmp-total}
 use Rattle.vm_index.specs.declared.posting.Posting.{Posting}
-use Rattle.vm_index.specs.Entries.{put_entry, gathered}
+use Rattle.vm_index.specs.inner.Entries.{put_entry, gathered}
 use Rattle.vm_index.proofs.DistinctLaws as distinct
 use Rattle.vm_index.proofs.DistinctLaws.{begun}
 use Rattle.vm_index.proofs.ListLaws.{all_more, filter_none}

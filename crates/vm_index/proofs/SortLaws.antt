@@ -20,7 +20,7 @@ use Rattle.vm_labels.proofs.OrderLaws.{pair_eq-Decides, pairs_tied, pair_order, 
 use Rattle.vm_labels.proofs.BuildLaws.{below_apart}
 use Rattle.vm_index.specs.declared.posting.Posting.{Posting}
 use Rattle.vm_index.specs.Index.{places_from, ordinals_of, posting_of, postings_of}
-use Rattle.vm_index.specs.Entries.{entries_from, gathered}
+use Rattle.vm_index.specs.inner.Entries.{entries_from, gathered}
 use Rattle.vm_index.proofs.ListLaws.{all_more, all_append, all_filter, all_own, filter_none, up_filter, at_item}
 use Rattle.vm_index.proofs.GatherLaws.{pairs_gathered, right, Right, ordinals_among, InPairOrder}
 

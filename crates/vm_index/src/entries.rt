@@ -4,7 +4,7 @@ ghost use Rattle.std.specs.Prelude.{◌≡◌, ◌≤◌, ◌++◌, length, map,
 ghost use Rattle.std.specs.List.{AllByRecursion, prefix_len};
 ghost use Rattle.vm_labels.specs.Labels.{IsLabels, pair_eq};
 ghost use Rattle.vm_index.specs.Index.{postings_of};
-ghost use Rattle.vm_index.specs.Entries.{entries_from, gathered, seen};
+ghost use Rattle.vm_index.specs.inner.Entries.{entries_from, gathered, seen};
 
 use crate::Posting;
 use std::alloc::{AllocError, Global};

@@ -2,7 +2,7 @@
 use Rattle.std.proofs.Common.{◌≡◌, ℕ, zero, suc, ◌+◌, ◌*◌, ◌/◌, ◌<◌, ◌≤◌, ◌^◌, length, refl, ap, arith, inl, inr}
 use Rattle.std.proofs.lemmas.Nat.{pow_below}
 use Rattle.std.proofs.lemmas.Bool.{cases_lt}
-use Rattle.vm_json.specs.Nesting.{brackets}
+use Rattle.vm_json.specs.inner.Nesting.{brackets}
 
 pub length-brackets : (count bits : ℕ) → length (brackets count bits) ≡ count
 length-brackets zero bits = refl

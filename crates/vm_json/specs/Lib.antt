@@ -1,3 +1,3 @@
 pub mod Grammar
 pub mod Machine
-pub mod Nesting
+pub mod inner

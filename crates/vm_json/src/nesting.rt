@@ -1,7 +1,7 @@
 //! The brackets that are open at a place.
 
 ghost use Rattle.std.specs.Prelude.{◌≡◌, ◌∷◌, [], ◌<◌, ◌==◌, length, drop, nat_lt};
-ghost use Rattle.vm_json.specs.Nesting.{innermost};
+ghost use Rattle.vm_json.specs.inner.Nesting.{innermost};
 
 use std::marker::Model;
 
@@ -25,7 +25,7 @@ pub(crate) struct Nesting {
 
 impl Model for Nesting {
     ghost use Rattle.std.specs.Prelude.{List};
-    ghost use Rattle.vm_json.specs.Nesting.{brackets, IsNesting};
+    ghost use Rattle.vm_json.specs.inner.Nesting.{brackets, IsNesting};
     ghost use Rattle.vm_json.specs.declared.nesting.Bracket.{Bracket};
 
     ghost Value = { List Bracket };

@@ -3,7 +3,7 @@ use Rattle.std.proofs.Common.{◌≡◌, ◌+◌, ℕ, suc, zero, ◌<◌, List,
 use Rattle.std.specs.Prelude.{option_map, option_and_then, ◌==◌, ◌&&◌, not}
 use Rattle.std.proofs.Math.ListN.{get_or}
 use Rattle.std.proofs.lemmas.List.{map-append}
-use Rattle.vm_jsonline.specs.Stop.{Fails}
+use Rattle.vm_jsonline.specs.inner.Stop.{Fails}
 use Rattle.vm_jsonline.specs.declared.stop.Stop.{Stop}
 use Rattle.vm_jsonline.specs.declared.stop.Stop.TheVariants.{Memory, Faulty}
 use Rattle.vm_jsonline.specs.Parts.{next_item, next_member, items, members, items_of, members_of, MemberRead, Part, quote_place}

@@ -3,5 +3,5 @@ pub mod Parts
 pub mod Print
 pub mod Reading
 pub mod Series
-pub mod Stop
 pub mod Strings
+pub mod inner

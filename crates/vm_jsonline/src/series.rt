@@ -4,7 +4,7 @@ ghost use Rattle.std.specs.Prelude.{◌≡◌, ◌++◌, ◌∷◌, [], length, 
 ghost use Rattle.vm_jsonline.specs.Parts.{Part};
 ghost use Rattle.vm_jsonline.specs.Reading.{all_members, only_part, parts_at, parts_rows, rows_reading};
 ghost use Rattle.vm_jsonline.specs.Series.{once, is_text, kept, rows_of, series_rows};
-ghost use Rattle.vm_jsonline.specs.Stop.{Gives};
+ghost use Rattle.vm_jsonline.specs.inner.Stop.{Gives};
 ghost use Rattle.vm_jsonline.specs.Strings.{string_reading};
 ghost use Rattle.vm_labels.specs.Labels.{built};
 

@@ -7,7 +7,7 @@ ghost use Rattle.std.specs.Str.Parse.{digits_value};
 ghost use Rattle.vm_jsonline.specs.Parts.{string_at as string_in};
 ghost use Rattle.vm_jsonline.specs.Reading.{is_number_byte, number_at, text_at, pair_at, sample_at, time_at, all_members, all_items, pairs_reading, samples_reading, times_reading};
 ghost use Rattle.vm_jsonline.specs.Series.{all_of, value_of, no_value, time_in, small_time};
-ghost use Rattle.vm_jsonline.specs.Stop.{Gives};
+ghost use Rattle.vm_jsonline.specs.inner.Stop.{Gives};
 ghost use Rattle.vm_jsonline.specs.Strings.{string_reading};
 
 use crate::parts::{next_item, next_member, string_at};

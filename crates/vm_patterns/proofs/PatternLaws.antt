@@ -21,7 +21,7 @@ use Rattle.regex.specs.Strings.{IsCapturesOf, captures_haystack, captures_span, 
 use Rattle.regex.specs.Writes.{both}
 use Rattle.regex.specs.declared.string.captures.Captures.{Captures}
 use Rattle.regex.specs.declared.string.regex.Regex.{Regex}
-use Rattle.vm_patterns.specs.Expressions.{IsReadFrom, IsMeant, texts_of}
+use Rattle.vm_patterns.specs.inner.Expressions.{IsReadFrom, IsMeant, texts_of}
 use Rattle.vm_outside.specs.declared.patterns.PatternFault.{PatternFault}
 use Rattle.vm_outside.specs.declared.patterns.PatternFault.TheVariants.{Syntax, Refused, Memory}
 use Rattle.vm_patterns.specs.Patterns.{IsExpression, anchored, found_by, in_span, group_texts}

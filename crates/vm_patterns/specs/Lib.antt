@@ -1,3 +1,3 @@
-pub mod Expressions
 pub mod MemPatterns
 pub mod Patterns
+pub mod inner

@@ -1,6 +1,6 @@
 ghost use Rattle.std.specs.Prelude.{◌≡◌, ◌≢◌, ◌↔◌, IfOk, IsOk, IsErrOf, string_bytes};
 ghost use Rattle.regex.specs.Strings.{captures_haystack, captures_span};
-ghost use Rattle.vm_patterns.specs.Expressions.{IsMeant, IsReadFrom, texts_of};
+ghost use Rattle.vm_patterns.specs.inner.Expressions.{IsMeant, IsReadFrom, texts_of};
 ghost use Rattle.vm_patterns.specs.Patterns.{IsExpression, IsPattern, anchored, in_span, is_whole_match, whole_groups};
 
 use regex::{Captures, Error, Regex};

@@ -3,7 +3,7 @@ use Rattle.std.proofs.Common.{◌≡◌, ℕ, zero, suc, ◌-◌, ◌<◌, true,
 use Rattle.std.specs.Prelude.{if◌then◌else◌}
 use Rattle.vm_labels.specs.declared.pair.Pair.{Pair}
 use Rattle.vm_promtext.specs.Reading.{braces_reading, turn_reading, Turn, ◌>>=◌}
-use Rattle.vm_promtext.specs.Stop.{Fails}
+use Rattle.vm_promtext.specs.inner.Stop.{Fails}
 use Rattle.vm_promtext.specs.declared.stop.Stop.{Stop}
 use Rattle.vm_promtext.specs.declared.stop.Stop.TheVariants.{Memory, Broken}
 

@@ -3,5 +3,5 @@ pub mod Means
 pub mod Outcome
 pub mod Quoted
 pub mod Reading
-pub mod Stop
 pub mod Utf8
+pub mod inner

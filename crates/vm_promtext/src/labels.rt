@@ -4,7 +4,7 @@ ghost use Rattle.std.specs.Prelude.{◌≡◌, ◌++◌, ◌∷◌, [], true, le
 ghost use Rattle.vm_labels.specs.Name.{is_name};
 ghost use Rattle.vm_promtext.specs.Quoted.{unescaped};
 ghost use Rattle.vm_promtext.specs.Reading.{PairRead, pair_reading, behind_pair, turn_reading, braces_reading, labels_reading};
-ghost use Rattle.vm_promtext.specs.Stop.{seen, Gives};
+ghost use Rattle.vm_promtext.specs.inner.Stop.{seen, Gives};
 
 use crate::escapes::unescaped;
 use crate::quoted::quoted;

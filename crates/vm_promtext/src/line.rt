@@ -3,7 +3,7 @@
 ghost use Rattle.std.specs.Prelude.{◌≡◌, ◌≤◌, ◌<◌, ◌^◌, IfOk};
 ghost use Rattle.vm_promtext.specs.Means.{IsReading};
 ghost use Rattle.vm_promtext.specs.Reading.{line_reading, reading};
-ghost use Rattle.vm_promtext.specs.Stop.{Gives};
+ghost use Rattle.vm_promtext.specs.inner.Stop.{Gives};
 
 use crate::row::{place, read_row};
 use crate::stop::Stop;

@@ -2,7 +2,7 @@
 
 ghost use Rattle.std.specs.Prelude.{◌≡◌, ◌<◌, ◌-◌, length, false, IfSome};
 ghost use Rattle.vm_promtext.specs.Reading.{quote_place, quoted_reading};
-ghost use Rattle.vm_promtext.specs.Stop.{seen};
+ghost use Rattle.vm_promtext.specs.inner.Stop.{seen};
 ghost use Rattle.vm_promtext.specs.Utf8.{readable, nothing};
 
 use crate::stop::Wrong;

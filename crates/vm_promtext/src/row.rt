@@ -8,7 +8,7 @@ ghost use Rattle.vm_labels.specs.Name.{is_name};
 ghost use Rattle.vm_promtext.specs.Grammar.{name_pair};
 ghost use Rattle.vm_promtext.specs.Outcome.{with_labels, kept, time_of};
 ghost use Rattle.vm_promtext.specs.Reading.{row_reading, value_reading, time_reading, digits_reading};
-ghost use Rattle.vm_promtext.specs.Stop.{seen, Gives};
+ghost use Rattle.vm_promtext.specs.inner.Stop.{seen, Gives};
 
 use crate::labels::{name_text, read_labels};
 use crate::line::Line;

@@ -4,7 +4,7 @@ ghost use Rattle.std.specs.Prelude.{◌≡◌, ◌<◌, ◌≤◌, length, true,
 ghost use Rattle.vm_labels.specs.Name.{is_name};
 ghost use Rattle.vm_promtext.specs.Grammar.{is_blank};
 ghost use Rattle.vm_promtext.specs.Reading.{behind_blanks, mark_reading, name_reading, before_blank};
-ghost use Rattle.vm_promtext.specs.Stop.{seen};
+ghost use Rattle.vm_promtext.specs.inner.Stop.{seen};
 
 use crate::stop::Wrong;
 use vm_labels::name_len;

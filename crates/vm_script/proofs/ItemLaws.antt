@@ -11,7 +11,7 @@ use Rattle.std.proofs.lemmas.Bool.{eq-eqb, eqb-true}
 use Rattle.std.proofs.lemmas.Bool.Decides.{nat_tests}
 use Rattle.vm_labels.specs.Name.{begins_name, is_name_byte, name_len}
 use Rattle.vm_labels.specs.declared.selector.Filter.{Filter}
-use Rattle.vm_script.specs.Front.{with_front}
+use Rattle.vm_script.specs.inner.Front.{with_front}
 use Rattle.vm_script.specs.Expression.{is_quote, items_of, items_behind, item_of, behind}
 
 -- a text with a quote is cut at the first one

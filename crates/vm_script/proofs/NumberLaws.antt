@@ -5,7 +5,7 @@ use Rattle.std.specs.List.{list_all}
 use Rattle.std.specs.Char.{is_ascii_digit, digit_value}
 use Rattle.std.specs.Str.Parse.{digits_value, digits_value_after}
 use Rattle.std.proofs.Common.{drop-cons, drop_of_length-le}
-use Rattle.vm_script.specs.Digit.{with_digit}
+use Rattle.vm_script.specs.inner.Digit.{with_digit}
 use Rattle.vm_script.specs.Number.{number_of}
 
 -- the number that digits write which follow those of a number

@@ -9,7 +9,7 @@ ghost use Rattle.vm_script.specs.Expression.{metric_filters, braces_filters, inn
 ghost use Rattle.vm_script.specs.Expression.{items_behind, item_of, op_of};
 ghost use Rattle.vm_script.specs.Expression.{behind, front_name, behind_name};
 ghost use Rattle.vm_script.specs.Expression.{is_free_name, is_reserved, is_quote};
-ghost use Rattle.vm_script.specs.Front.{with_front};
+ghost use Rattle.vm_script.specs.inner.Front.{with_front};
 ghost use Rattle.vm_labels.specs.declared.selector.Selector.{Selector as SelectorOf};
 
 use std::alloc::{AllocError, Global};

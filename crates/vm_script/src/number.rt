@@ -2,7 +2,7 @@
 
 ghost use Rattle.std.specs.Prelude.{◌≡◌};
 ghost use Rattle.vm_script.specs.Number.{number_of};
-ghost use Rattle.vm_script.specs.Digit.{with_digit};
+ghost use Rattle.vm_script.specs.inner.Digit.{with_digit};
 
 /// How many digits a number has at most.
 const NUMBER_DIGITS: usize = 20;

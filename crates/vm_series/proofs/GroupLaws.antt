@@ -17,7 +17,7 @@ use Rattle.vm_labels.specs.declared.pair.Pair.{Pair}
 use Rattle.vm_labels.specs.declared.row.Row.{Row}
 use Rattle.vm_labels.proofs.OrderLaws.{label_cmp-total, label_eq-Decides, label_order, labels_tied}
 use Rattle.vm_series.specs.Series.{row_of, rows_of_piece, series_among, series_of, sets_among}
-use Rattle.vm_series.specs.Pieces.{InLabelOrder, OfOneSet, samples_of}
+use Rattle.vm_series.specs.inner.Pieces.{InLabelOrder, OfOneSet, samples_of}
 use Rattle.vm_series.specs.declared.series.Piece.{Piece}
 use Rattle.vm_series.specs.declared.series.Series.{Series}
 use Rattle.vm_series.proofs.Lists.{all_flat_map, all_map, all_of, all_sorted, dedup_alike, counts-flat_map, length-sorted}

@@ -8,7 +8,7 @@ ghost use Rattle.vm_base.specs.Stamped.{is_in_order};
 ghost use Rattle.vm_base.specs.Thinned.{thinned};
 ghost use Rattle.vm_labels.specs.Labels.{label_eq};
 ghost use Rattle.vm_series.specs.Series.{rows_of_piece, series_of};
-ghost use Rattle.vm_series.specs.Pieces.{InLabelOrder, OfOneSet, samples_of};
+ghost use Rattle.vm_series.specs.inner.Pieces.{InLabelOrder, OfOneSet, samples_of};
 
 use crate::{Piece, Series};
 use std::alloc::{AllocError, Global};

@@ -2,8 +2,8 @@ use Rattle.std.proofs.Common.{subst, sym, ◌∙◌, ◌∷◌}
 use Rattle.mql_lists.specs.Classes.{class_of_word}
 use Rattle.mql_lists.specs.Words.{word_of}
 use Rattle.mql_parse.specs.Machine.{by_wanted, in_operator}
-use Rattle.mql_parse.specs.Stack.{stack_of}
-use Rattle.mql_parse.specs.Views.{the_frames, the_joint, Steps}
+use Rattle.mql_parse.specs.inner.Stack.{stack_of}
+use Rattle.mql_parse.specs.inner.Views.{the_frames, the_joint, Steps}
 use Rattle.mql_parse.proofs.Falls.{compared_falls}
 use Rattle.mql_parse.proofs.joining.by_compared.Goals as goal
 

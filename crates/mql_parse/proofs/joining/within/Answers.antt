@@ -2,8 +2,8 @@ use Rattle.std.proofs.Common.{subst, ap}
 use Rattle.mql_lists.specs.Classes.{class_of_word}
 use Rattle.mql_lists.specs.Words.{word_of}
 use Rattle.mql_parse.specs.Machine.{by_wanted}
-use Rattle.mql_parse.specs.Stack.{stack_of}
-use Rattle.mql_parse.specs.Views.{the_frames, Steps}
+use Rattle.mql_parse.specs.inner.Stack.{stack_of}
+use Rattle.mql_parse.specs.inner.Views.{the_frames, Steps}
 use Rattle.mql_parse.proofs.joining.within.Goals as goal
 
 pub returns : goal.returns

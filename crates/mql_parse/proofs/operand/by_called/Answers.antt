@@ -1,6 +1,6 @@
 use Rattle.std.proofs.Common.{subst, sym}
-use Rattle.mql_parse.specs.Stack.{stack_of}
-use Rattle.mql_parse.specs.Views.{the_call, the_frames, Steps}
+use Rattle.mql_parse.specs.inner.Stack.{stack_of}
+use Rattle.mql_parse.specs.inner.Views.{the_call, the_frames, Steps}
 use Rattle.mql_parse.proofs.Falls.{called_falls}
 use Rattle.mql_parse.proofs.operand.by_called.Goals as goal
 

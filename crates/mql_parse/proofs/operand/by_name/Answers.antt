@@ -1,6 +1,6 @@
 use Rattle.std.proofs.Common.{subst, sym}
-use Rattle.mql_parse.specs.Stack.{stack_of}
-use Rattle.mql_parse.specs.Views.{the_frames, the_head, Steps}
+use Rattle.mql_parse.specs.inner.Stack.{stack_of}
+use Rattle.mql_parse.specs.inner.Views.{the_frames, the_head, Steps}
 use Rattle.mql_parse.proofs.Falls.{named_falls}
 use Rattle.mql_parse.proofs.operand.by_name.Goals as goal
 

@@ -1,7 +1,7 @@
 use Rattle.std.proofs.Common.{subst, sym}
 use Rattle.mql_expr.specs.Tree.{tree}
-use Rattle.mql_parse.specs.Stack.{stack_of}
-use Rattle.mql_parse.specs.Views.{the_frames, Steps}
+use Rattle.mql_parse.specs.inner.Stack.{stack_of}
+use Rattle.mql_parse.specs.inner.Views.{the_frames, Steps}
 use Rattle.mql_parse.proofs.Falls.{primary_falls}
 use Rattle.mql_parse.proofs.operand.by_primary.Goals as goal
 

@@ -6,8 +6,8 @@ use Rattle.mql_lex.specs.declared.token.TokenKind.TheVariants.{Name}
 use Rattle.mql_lists.specs.Words.{word_of, words_of}
 use Rattle.mql_parse.specs.Faults.{IsUnexpected}
 use Rattle.mql_parse.specs.Machine.{at, wanted}
-use Rattle.mql_parse.specs.Stack.{stack_of}
-use Rattle.mql_parse.specs.Views.{the_before, the_frames}
+use Rattle.mql_parse.specs.inner.Stack.{stack_of}
+use Rattle.mql_parse.specs.inner.Views.{the_before, the_frames}
 use Rattle.mql_parse.specs.declared.parse_fault.ParseFault.{ParseFault}
 use Rattle.mql_parse.proofs.TokenPlaces.{token_stands, token_inside}
 use Rattle.mql_parse.proofs.Turns.{turn_more, fault_unexpected, fault_deep, fault_wide, ended_whole, ended_short}

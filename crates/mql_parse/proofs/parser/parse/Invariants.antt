@@ -2,8 +2,8 @@ use Rattle.std.specs.Prelude.{◌≡◌, length, take, Some}
 use Rattle.vm_base.specs.Run.{run}
 use Rattle.mql_lists.specs.Words.{words_of}
 use Rattle.mql_parse.specs.Machine.{at, step, start}
-use Rattle.mql_parse.specs.Stack.{stack_of}
-use Rattle.mql_parse.specs.Views.{the_before, the_frames}
+use Rattle.mql_parse.specs.inner.Stack.{stack_of}
+use Rattle.mql_parse.specs.inner.Views.{the_before, the_frames}
 use Rattle.mql_parse.proofs.parser.parse.Given as goal
 
 abbrev pub invariant-tokens : goal.invariant-tokens

@@ -1,8 +1,8 @@
 use Rattle.std.proofs.Common.{◌≡◌, length}
 use Rattle.mql_expr.specs.Tree.{tree}
 use Rattle.mql_parse.specs.Machine.{reduce as reduced}
-use Rattle.mql_parse.specs.Stack.{stack_of}
-use Rattle.mql_parse.specs.Views.{the_frames}
+use Rattle.mql_parse.specs.inner.Stack.{stack_of}
+use Rattle.mql_parse.specs.inner.Views.{the_frames}
 use Rattle.mql_parse.proofs.reducing.reduce.Given as goal
 
 abbrev pub invariant-frames : goal.invariant-frames

@@ -3,8 +3,8 @@ use Rattle.mql_expr.specs.Tree.{select}
 use Rattle.mql_lists.specs.Classes.{class_of_word}
 use Rattle.mql_lists.specs.Words.{word_of}
 use Rattle.mql_parse.specs.Machine.{at, by, in_names, in_braces, named_for, primary, within_part}
-use Rattle.mql_parse.specs.Stack.{stack_of}
-use Rattle.mql_parse.specs.Views.{the_before, the_frames, the_purpose, Steps}
+use Rattle.mql_parse.specs.inner.Stack.{stack_of}
+use Rattle.mql_parse.specs.inner.Views.{the_before, the_frames, the_purpose, Steps}
 use Rattle.mql_parse.proofs.step.step.Goals as goal
 
 pub returns-in_ok-progress-in-InNames : goal.returns-in_ok-progress-in-InNames

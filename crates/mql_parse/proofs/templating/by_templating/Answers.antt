@@ -2,8 +2,8 @@ use Rattle.std.proofs.Common.{subst, sym}
 use Rattle.mql_lists.specs.Classes.{class_of_word}
 use Rattle.mql_lists.specs.Words.{word_of}
 use Rattle.mql_parse.specs.Machine.{at, by, in_params, template_headed, within_part}
-use Rattle.mql_parse.specs.Stack.{stack_of}
-use Rattle.mql_parse.specs.Views.{the_frames, the_head, the_scope, the_templating, Steps}
+use Rattle.mql_parse.specs.inner.Stack.{stack_of}
+use Rattle.mql_parse.specs.inner.Views.{the_frames, the_head, the_scope, the_templating, Steps}
 use Rattle.mql_parse.proofs.templating.by_templating.Goals as goal
 
 pub returns-in_ok-progress-in-InParams : goal.returns-in_ok-progress-in-InParams

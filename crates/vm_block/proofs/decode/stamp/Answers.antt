@@ -2,7 +2,7 @@
 use Rattle.std.proofs.Common.{◌≤ℤ◌, ℤ, pos, negsuc, ◌+◌, take, slice_index_or, unsigned_abs, ap, ap₂, sym, subst, ◌∙◌, w16, w64, to_z, of_z, arith, rules}
 use Rattle.std.proofs.lemmas.Int.{to_z-of_z}
 use Rattle.vm_base.specs.Sample.{sample_of}
-use Rattle.vm_block.specs.Reading.{AreStamped}
+use Rattle.vm_block.specs.inner.Reading.{AreStamped}
 use Rattle.vm_block.proofs.Stamps.{stamp_more, no_sample}
 use Rattle.vm_block.proofs.decode.stamp.Goals as goal
 

@@ -1,5 +1,5 @@
 use Rattle.std.proofs.Common.{take}
-use Rattle.vm_block.specs.Reading.{AreStamped}
+use Rattle.vm_block.specs.inner.Reading.{AreStamped}
 use Rattle.vm_block.proofs.decode.stamp.Given as goal
 
 abbrev pub invariant-loop-place : goal.invariant-loop-place

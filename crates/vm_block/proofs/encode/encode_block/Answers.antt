@@ -5,7 +5,7 @@ use Rattle.std.specs.declared.alloc.AllocError.{AllocError}
 use Rattle.vm_base.specs.declared.stamped.Stamped.{Stamped}
 use Rattle.vm_codec.specs.Coding.{IsColumn, IsInBounds, chosen}
 use Rattle.vm_block.specs.Block.{times_of}
-use Rattle.vm_block.specs.Reading.{raised_by}
+use Rattle.vm_block.specs.inner.Reading.{raised_by}
 use Rattle.vm_block.specs.Written.{IsWritten}
 use Rattle.vm_block.proofs.Blocks.{moved_column}
 use Rattle.vm_block.proofs.Mantissas.{times_bound}

@@ -3,7 +3,7 @@ use Rattle.std.proofs.Common.{◌≡◌, ◌+◌, ◌-◌, ◌*◌, ◌^◌, ◌
 use Rattle.std.proofs.lemmas.Int.{to_z-of_z}
 use Rattle.std.specs.Int.{is_negative}
 use Rattle.vm_base.specs.Number.{form_of, signed}
-use Rattle.vm_block.specs.Reading.{raised_by}
+use Rattle.vm_block.specs.inner.Reading.{raised_by}
 use Rattle.vm_block.proofs.Mantissas.{some_abs, shift_below, raised_few, raised_value}
 use Rattle.vm_block.proofs.encode.mantissa.Goals as goal
 

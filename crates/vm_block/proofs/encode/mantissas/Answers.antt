@@ -2,7 +2,7 @@
 use Rattle.std.proofs.Common.{◌≡◌, ◌++◌, ◌∷◌, [], All, map, ap, sym, subst, ◌∙◌, w64, rules}
 use Rattle.std.proofs.lemmas.Int.{to_z-of_z}
 use Rattle.vm_codec.specs.Coding.{IsInBounds}
-use Rattle.vm_block.specs.Reading.{raised_by}
+use Rattle.vm_block.specs.inner.Reading.{raised_by}
 use Rattle.vm_block.proofs.Mantissas.{item_least, item_digits, bounds_more, mantissas_more, samples_more}
 use Rattle.vm_block.proofs.encode.mantissas.Goals as goal
 

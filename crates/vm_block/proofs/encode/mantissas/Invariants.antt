@@ -3,7 +3,7 @@ use Rattle.std.specs.List.{list_all}
 use Rattle.vm_base.specs.Sample.{is_sample}
 use Rattle.vm_codec.specs.Coding.{IsInBounds}
 use Rattle.vm_block.specs.Block.{values_of}
-use Rattle.vm_block.specs.Reading.{raised_by}
+use Rattle.vm_block.specs.inner.Reading.{raised_by}
 use Rattle.vm_block.proofs.encode.mantissas.Given as goal
 
 abbrev pub invariant-loop-sample : goal.invariant-loop-sample

@@ -2,7 +2,7 @@
 use Rattle.std.proofs.Common.{◌≡◌, IfOk, IfErr, Ok, Err, List, ℕ, length, get_or, ◌<◌, Result, Some, None, ap, subst}
 use Rattle.vm_base.specs.declared.broken.Broken.{Broken}
 use Rattle.vm_block.specs.Header.{IsHeader, header_bytes, field_rules, first_broken}
-use Rattle.vm_block.specs.Reading.{AreFields}
+use Rattle.vm_block.specs.inner.Reading.{AreFields}
 use Rattle.vm_block.specs.declared.header.BlockHeader.{BlockHeader}
 use Rattle.vm_block.proofs.Headers.{fields_again, fields_kept, fields_header, one_header}
 use Rattle.vm_block.proofs.header.read_header.Goals as goal

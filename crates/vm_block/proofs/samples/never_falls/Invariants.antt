@@ -1,5 +1,5 @@
 use Rattle.std.proofs.Common.{◌≡◌, drop}
-use Rattle.vm_block.specs.Reading.{never_falls}
+use Rattle.vm_block.specs.inner.Reading.{never_falls}
 use Rattle.vm_block.proofs.samples.never_falls.Given as goal
 
 abbrev pub invariant-loop-sample : goal.invariant-loop-sample

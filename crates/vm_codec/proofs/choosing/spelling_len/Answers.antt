@@ -2,7 +2,7 @@
 use Rattle.std.proofs.Common.{◌-ℤ◌, pos, length, slice_index_or, ap, ◌∙◌, w64, to_z, arith, rules}
 use Rattle.std.proofs.lemmas.Int.{to_z-of_z}
 use Rattle.vm_codec.specs.Integer.{groups, zigzag}
-use Rattle.vm_codec.specs.Reading.{lean_after}
+use Rattle.vm_codec.specs.inner.Reading.{lean_after}
 use Rattle.vm_codec.proofs.Chosen.{differences_of}
 use Rattle.vm_codec.proofs.Written.{counted_more, counted_all}
 use Rattle.vm_codec.proofs.choosing.spelling_len.Goals as goal

@@ -1,6 +1,6 @@
 use Rattle.std.proofs.Common.{◌≡◌, ◌-◌, ◌^◌, ◌<◌, ◌≤◌, length}
-use Rattle.vm_codec.specs.Reading.{groups_at, number_at}
-use Rattle.vm_codec.specs.Reading.{behind, in_64_bits}
+use Rattle.vm_codec.specs.inner.Reading.{groups_at, number_at}
+use Rattle.vm_codec.specs.inner.Reading.{behind, in_64_bits}
 use Rattle.vm_codec.proofs.integer.read_number.Given as goal
 
 abbrev pub invariant-loop-place : goal.invariant-loop-place

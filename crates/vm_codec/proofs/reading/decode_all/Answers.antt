@@ -1,7 +1,7 @@
 -- A column that takes all of the bytes.
 use Rattle.std.proofs.Common.{◌≡◌, ◌-◌, length, Ok, Err, ap, sym, ◌∙◌, w64}
 use Rattle.std.proofs.lemmas.Int.{to_z-of_z}
-use Rattle.vm_codec.specs.Reading.{all_read, onto, column_at}
+use Rattle.vm_codec.specs.inner.Reading.{all_read, onto, column_at}
 use Rattle.vm_codec.proofs.Values.{decoded-lone, decoded-column, all_read-all, all_read-left, on_ok, if_err}
 use Rattle.vm_codec.proofs.reading.decode_all.Goals as goal
 

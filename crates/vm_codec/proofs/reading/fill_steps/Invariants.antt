@@ -1,6 +1,6 @@
 use Rattle.std.proofs.Common.{◌≡◌, ◌-◌, ◌∷◌, take, length}
 use Rattle.std.specs.Option.{option_map}
-use Rattle.vm_codec.specs.Reading.{steps_from}
+use Rattle.vm_codec.specs.inner.Reading.{steps_from}
 use Rattle.vm_codec.proofs.Values.{behind_values}
 use Rattle.vm_codec.proofs.reading.fill_steps.Given as goal
 

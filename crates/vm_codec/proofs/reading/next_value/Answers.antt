@@ -1,7 +1,7 @@
 -- The sum, as the definition has it.
 use Rattle.std.proofs.Common.{◌+ℤ◌, Some, ap, ap₂, sym, ◌∙◌, w64, to_z, of_z, rules}
 use Rattle.std.proofs.lemmas.Int.{to_z-of_z}
-use Rattle.vm_codec.specs.Reading.{bounded}
+use Rattle.vm_codec.specs.inner.Reading.{bounded}
 use Rattle.vm_codec.proofs.Values.{sum_fits, next_is}
 use Rattle.vm_codec.proofs.reading.next_value.Goals as goal
 

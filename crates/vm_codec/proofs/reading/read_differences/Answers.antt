@@ -2,7 +2,7 @@
 use Rattle.std.proofs.Common.{◌-◌, ◌≤◌, length, Err, sym, ap, ◌∙◌, w64, to_z, of_z, ◌-ℤ◌, arith, rules}
 use Rattle.std.proofs.lemmas.Int.{to_z-of_z}
 use Rattle.std.proofs.lemmas.List.{length-set}
-use Rattle.vm_codec.specs.Reading.{all_read, lean_after}
+use Rattle.vm_codec.specs.inner.Reading.{all_read, lean_after}
 use Rattle.vm_codec.proofs.Values.{take_first, first_front, differ, differ_small, same_values, values_more, values_stuck, values_done}
 use Rattle.vm_codec.proofs.reading.read_differences.Goals as goal
 

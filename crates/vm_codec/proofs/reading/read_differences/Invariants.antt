@@ -1,6 +1,6 @@
 use Rattle.std.proofs.Common.{◌≡◌, ◌-◌, ◌*◌, ◌^◌, ◌<◌, ◌≤◌, take, length, unsigned_abs, pos}
 use Rattle.vm_codec.specs.Coding.{IsInBounds}
-use Rattle.vm_codec.specs.Reading.{values_at, onto}
+use Rattle.vm_codec.specs.inner.Reading.{values_at, onto}
 use Rattle.vm_codec.proofs.Values.{with_front}
 use Rattle.vm_codec.proofs.reading.read_differences.Given as goal
 

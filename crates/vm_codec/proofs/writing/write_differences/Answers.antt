@@ -2,7 +2,7 @@
 use Rattle.std.proofs.Common.{◌-ℤ◌, ◌++◌, pos, take, slice_index_or, ap, ◌∙◌, w64, to_z, arith, rules}
 use Rattle.std.proofs.lemmas.Int.{to_z-of_z}
 use Rattle.vm_codec.specs.Integer.{groups, zigzag}
-use Rattle.vm_codec.specs.Reading.{lean_after}
+use Rattle.vm_codec.specs.inner.Reading.{lean_after}
 use Rattle.vm_codec.proofs.Written.{written_more, written_all, further}
 use Rattle.vm_codec.proofs.Chosen.{differences_of}
 use Rattle.vm_codec.proofs.writing.write_differences.Goals as goal

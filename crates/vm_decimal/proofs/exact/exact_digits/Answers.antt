@@ -1,6 +1,6 @@
 use Rattle.std.proofs.Common.{◌≡◌, take, get_or, refl, arith, sym, subst, ◌∙◌, take_all, Some}
 use Rattle.vm_base.specs.Run.{run}
-use Rattle.vm_decimal.specs.Exact.{IsExact}
+use Rattle.vm_decimal.specs.inner.Exact.{IsExact}
 use Rattle.vm_decimal.specs.NumberMachine.{taken, step, start}
 use Rattle.vm_decimal.proofs.Exacts.{fresh_exact, step_off, gathered}
 use Rattle.vm_decimal.proofs.Readers.{step_on, came, stuck}

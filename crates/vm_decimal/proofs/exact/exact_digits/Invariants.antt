@@ -1,5 +1,5 @@
 use Rattle.std.proofs.Common.{◌≤◌, ◌<◌, ◌^◌, take}
-use Rattle.vm_decimal.specs.Exact.{Gathers}
+use Rattle.vm_decimal.specs.inner.Exact.{Gathers}
 use Rattle.vm_decimal.proofs.exact.exact_digits.Given as goal
 
 abbrev pub invariant-loop-byte : goal.invariant-loop-byte

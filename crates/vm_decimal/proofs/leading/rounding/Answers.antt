@@ -1,5 +1,5 @@
 use Rattle.std.proofs.Common.{◌+◌, arith, sym, subst}
-use Rattle.vm_decimal.specs.Leading.{IsRounding}
+use Rattle.vm_decimal.specs.inner.Leading.{IsRounding}
 use Rattle.vm_decimal.proofs.Roundings.{few_rounding, many_rounding}
 use Rattle.vm_decimal.proofs.leading.rounding.Goals as goal
 

@@ -1,5 +1,5 @@
 use Rattle.std.proofs.Common.{take}
-use Rattle.vm_decimal.specs.Reader.{Comes, Counts}
+use Rattle.vm_decimal.specs.inner.Reader.{Comes, Counts}
 use Rattle.vm_decimal.proofs.reader.scan.Given as goal
 
 abbrev pub invariant-loop-at : goal.invariant-loop-at

@@ -1,6 +1,6 @@
 use Rattle.std.proofs.Common.{◌++◌, map, ap, ◌∙◌}
 use Rattle.vm_labels.specs.Labels.{IsLabels}
-use Rattle.vm_index.specs.Entries.{entries_from, seen}
+use Rattle.vm_index.specs.inner.Entries.{entries_from, seen}
 use Rattle.vm_index.proofs.ListLaws.{all_taken}
 use Rattle.vm_index.proofs.SortLaws.{entries_more}
 use Rattle.vm_index.proofs.entries.entries_of.Goals as goal

@@ -1,7 +1,7 @@
 use Rattle.std.proofs.Common.{◌≡◌, ◌++◌, map, take, drop}
 use Rattle.std.specs.List.{AllByRecursion}
 use Rattle.vm_labels.specs.Labels.{IsLabels}
-use Rattle.vm_index.specs.Entries.{entries_from, seen}
+use Rattle.vm_index.specs.inner.Entries.{entries_from, seen}
 use Rattle.vm_index.proofs.entries.entries_of.Given as goal
 
 abbrev pub invariant-loop-at : goal.invariant-loop-at

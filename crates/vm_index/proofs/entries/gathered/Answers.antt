@@ -2,7 +2,7 @@ use Rattle.std.proofs.Common.{◌≡◌, refl, ◌+◌, ◌-◌, ◌<◌, ◌++�
 use Rattle.std.proofs.lemmas.List.{length-drop}
 use Rattle.std.specs.List.{prefix_len}
 use Rattle.vm_labels.specs.Labels.{pair_eq}
-use Rattle.vm_index.specs.Entries.{gathered, seen}
+use Rattle.vm_index.specs.inner.Entries.{gathered, seen}
 use Rattle.vm_index.proofs.ListLaws.{rest_whole}
 use Rattle.vm_index.proofs.GatherLaws.{group_more, group_some}
 use Rattle.vm_index.proofs.entries.gathered.Goals as goal

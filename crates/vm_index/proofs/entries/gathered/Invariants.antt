@@ -1,5 +1,5 @@
 use Rattle.std.proofs.Common.{◌≡◌, ◌≤◌, ◌-◌, ◌++◌, map, length, drop}
-use Rattle.vm_index.specs.Entries.{gathered, seen}
+use Rattle.vm_index.specs.inner.Entries.{gathered, seen}
 use Rattle.vm_index.proofs.entries.gathered.Given as goal
 
 abbrev pub invariant-loop-at : goal.invariant-loop-at

@@ -1,7 +1,7 @@
 use Rattle.std.proofs.Common.{◌≡◌, ◌+◌, drop}
 use Rattle.std.specs.List.{prefix_len}
 use Rattle.vm_labels.specs.Labels.{pair_eq}
-use Rattle.vm_index.specs.Entries.{seen}
+use Rattle.vm_index.specs.inner.Entries.{seen}
 use Rattle.vm_index.proofs.entries.group_len.Given as goal
 
 abbrev pub invariant-loop-entry : goal.invariant-loop-entry

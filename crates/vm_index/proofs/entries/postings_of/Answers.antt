@@ -1,6 +1,6 @@
 use Rattle.std.proofs.Common.{map, ap, ◌∙◌}
 use Rattle.vm_base.specs.Sorted.{sorted}
-use Rattle.vm_index.specs.Entries.{gathered, seen}
+use Rattle.vm_index.specs.inner.Entries.{gathered, seen}
 use Rattle.vm_index.proofs.SortLaws.{gathered_are, sorted_seen, le_seen}
 use Rattle.vm_index.proofs.entries.postings_of.Goals as goal
 

@@ -1,5 +1,5 @@
 use Rattle.std.proofs.Common.{◌≡◌, ◌++◌, map, take}
-use Rattle.vm_index.specs.Entries.{seen}
+use Rattle.vm_index.specs.inner.Entries.{seen}
 use Rattle.vm_index.proofs.entries.put_entries.Given as goal
 
 abbrev pub invariant-loop-pair : goal.invariant-loop-pair

@@ -1,5 +1,5 @@
 use Rattle.std.proofs.Common.{◌≡◌, length}
-use Rattle.vm_script.specs.Front.{with_front}
+use Rattle.vm_script.specs.inner.Front.{with_front}
 use Rattle.std.specs.Str.{IsUtf8}
 use Rattle.vm_script.specs.Expression.{items_behind}
 use Rattle.vm_script.proofs.expression.more_filters.Given as goal

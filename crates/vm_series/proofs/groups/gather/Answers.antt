@@ -1,7 +1,7 @@
 use Rattle.std.proofs.Common.{◌≡◌, sym, subst, ap, ◌∙◌, rules, flat_map}
 use Rattle.std.proofs.lemmas.List.Sorted.{answers_always}
 use Rattle.std.proofs.lemmas.Result.{IfOk-weaker}
-use Rattle.vm_series.specs.Pieces.{InLabelOrder}
+use Rattle.vm_series.specs.inner.Pieces.{InLabelOrder}
 use Rattle.vm_series.specs.Series.{rows_of_piece, series_of}
 use Rattle.vm_series.proofs.GroupLaws.{in_label_order, series-permuted}
 use Rattle.vm_series.proofs.groups.gather.Goals as goal

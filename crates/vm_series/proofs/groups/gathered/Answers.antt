@@ -3,7 +3,7 @@ use Rattle.std.proofs.lemmas.List.{length-drop}
 use Rattle.std.specs.List.{prefix_len}
 use Rattle.vm_labels.specs.Labels.{label_eq}
 use Rattle.vm_index.proofs.ListLaws.{rest_whole}
-use Rattle.vm_series.specs.Pieces.{OfOneSet}
+use Rattle.vm_series.specs.inner.Pieces.{OfOneSet}
 use Rattle.vm_series.specs.Series.{rows_of_piece, series_of}
 use Rattle.vm_series.proofs.GroupLaws.{group_alike, group_more, group_some}
 use Rattle.vm_series.proofs.groups.gathered.Goals as goal

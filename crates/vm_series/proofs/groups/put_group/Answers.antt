@@ -3,7 +3,7 @@ use Rattle.std.proofs.lemmas.Bool.Decides.{nat_tests}
 use Rattle.std.proofs.lemmas.Result.{IfOk-equal}
 use Rattle.vm_base.specs.Stamped.{is_in_order}
 use Rattle.vm_base.specs.Thinned.{thinned}
-use Rattle.vm_series.specs.Pieces.{samples_of}
+use Rattle.vm_series.specs.inner.Pieces.{samples_of}
 use Rattle.vm_series.proofs.Lists.{length-sorted}
 use Rattle.vm_series.proofs.GroupLaws.{series-none, series-one}
 use Rattle.vm_series.proofs.groups.put_group.Goals as goal

@@ -3,7 +3,7 @@ use Rattle.std.proofs.Math.Seq.{take_all}
 use Rattle.vm_base.specs.Sorted.{sorted}
 use Rattle.vm_base.specs.Stamped.{is_in_order}
 use Rattle.vm_base.proofs.StampedLaws.{sorted_from_stamped_sort}
-use Rattle.vm_series.specs.Pieces.{samples_of}
+use Rattle.vm_series.specs.inner.Pieces.{samples_of}
 use Rattle.vm_series.proofs.groups.samples_of.Goals as goal
 
 pub returns : goal.returns

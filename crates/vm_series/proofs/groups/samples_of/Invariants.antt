@@ -1,5 +1,5 @@
 use Rattle.std.proofs.Common.{◌≡◌, take}
-use Rattle.vm_series.specs.Pieces.{samples_of}
+use Rattle.vm_series.specs.inner.Pieces.{samples_of}
 use Rattle.vm_series.proofs.groups.samples_of.Given as goal
 
 abbrev pub invariant-loop-piece : goal.invariant-loop-piece

@@ -1,7 +1,7 @@
 -- How the reader stands for the machine's state. Only inner contracts cite it.
 use Rattle.std.specs.Prelude.{◌≡◌, ℕ, ◌<◌, ◌≤◌, ◌^◌, List, Option, Some, None, Bool, true, false}
 use Rattle.vm_base.specs.Run.{run}
-use Rattle.vm_decimal.specs.Leading.{Leads}
+use Rattle.vm_decimal.specs.inner.Leading.{Leads}
 use Rattle.vm_decimal.specs.NumberMachine.{State, may_end, step, start}
 use Rattle.vm_decimal.specs.declared.number_machine.Symbol.{Symbol}
 use Rattle.vm_decimal.specs.declared.number_machine.Symbol.TheVariants.{Digit}

@@ -1,0 +1,5 @@
+pub mod Division
+pub mod Exact
+pub mod Leading
+pub mod Quick
+pub mod Reader
