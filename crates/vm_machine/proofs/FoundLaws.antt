@@ -20,9 +20,10 @@ use Rattle.vm_labels.specs.declared.pair.Pair.{Pair}
 use Rattle.vm_labels.specs.declared.row.Row.{Row}
 use Rattle.vm_labels.proofs.OrderLaws.{label_eq-Decides, label_cmp-total, labels_tied}
 use Rattle.vm_machine.specs.Eval.{series, lookback, no_pattern, eval, present, valued}
-use Rattle.vm_machine.specs.Found.{found, last_of_series, sample_within, at, sample_at, IsPut, values_of, value_of_entry}
+use Rattle.vm_machine.specs.Found.{found, last_of_series, values_of, value_of_entry}
 use Rattle.vm_dedup.specs.Visible.{samples, stamped}
 use Rattle.vm_machine.specs.Window.{is_within, last_within}
+use Rattle.vm_machine.specs.inner.Put.{sample_within, at, sample_at, IsPut}
 use Rattle.vm_machine.specs.declared.question.Question.{Question}
 use Rattle.vm_machine.proofs.MapLaws.{same_entries}
 use Rattle.vm_machine.proofs.SeriesLaws.{lookup-map, keys-map, ordered_any, ordered_strict}

@@ -4,8 +4,8 @@ use Rattle.std.proofs.Common.{Bool, true, false, cond, filter, subst, Option, So
 use Rattle.std.specs.Option.{unwrap_or}
 use Rattle.std.specs.Prelude.{nat_le, nat_lt}
 use Rattle.std.specs.List.{slice_index_or}
-use Rattle.vm_machine.specs.InRange.{AreInRange}
-use Rattle.vm_machine.specs.Machine.{State, begin_step, new_run, begun, read_more, run_of}
+use Rattle.vm_machine.specs.inner.InRange.{AreInRange}
+use Rattle.vm_machine.specs.Machine.{Meaning, State, begin_step, new_run, begun, read_more, run_of}
 use Rattle.vm_machine.specs.declared.question.Question.{Question}
 use Rattle.vm_machine.specs.declared.run.Run.{Run}
 
@@ -26,18 +26,20 @@ still_there f (x ∷ xs) zero d within = refl
 still_there f (x ∷ xs) (suc i) d within = still_there f xs i d (omega arith)
 
 -- a run is begun where its number is free and there is room
-pub begins : (there : Option Run) (state : State) (number : ℕ) (question : Question) → there ≡ None → nat_le 64 (length state.runs) ≡ false
-    → begin_step there state number (Ok question) ≡ (record state { runs = state.runs ++ new_run state number question ∷ [] }, Ok begun)
-begins None state number question free few = rw few refl
-begins (Some run) state number question free few = absurd cc
+pub begins : {Q A : Type 0} (meaning : Meaning Q A) (there : Option (Run Q)) (state : State Q) (number : ℕ) (question : Q)
+    → there ≡ None → nat_le 64 (length state.runs) ≡ false
+    → begin_step meaning there state number question
+    ≡ (record state { runs = state.runs ++ new_run meaning state number question ∷ [] }, Ok begun)
+begins meaning None state number question free few = rw few refl
+begins meaning (Some run) state number question free few = absurd cc
 
 -- the times of runs stay in range where a run is added, taken out or read, and each has such a time
 
-pub in_range-append : (runs : List Run) (run : Run) → AreInRange runs → run.question.time < 2 ^ 48 → AreInRange (runs ++ run ∷ [])
+pub in_range-append : (runs : List (Run Question)) (run : Run Question) → AreInRange runs → run.question.time < 2 ^ 48 → AreInRange (runs ++ run ∷ [])
 in_range-append [] run are small = (small, tt)
 in_range-append (first ∷ runs) run are small = (are.0, in_range-append runs run are.1 small)
 
-pub in_range-filter : (p : Run → Bool) (runs : List Run) → AreInRange runs → AreInRange (filter p runs)
+pub in_range-filter : (p : Run Question → Bool) (runs : List (Run Question)) → AreInRange runs → AreInRange (filter p runs)
 in_range-filter p [] are = tt
 in_range-filter p (run ∷ runs) are =
     elim (p run) as (λ b. AreInRange (cond b (run ∷ filter p runs) (filter p runs))) [
@@ -45,7 +47,7 @@ in_range-filter p (run ∷ runs) are =
       | false ↦ in_range-filter p runs are.1
     ]
 
-pub in_range-read : (number : ℕ) (runs : List Run) → AreInRange runs → AreInRange (map (read_more number) runs)
+pub in_range-read : (number : ℕ) (runs : List (Run Question)) → AreInRange runs → AreInRange (map (read_more number) runs)
 in_range-read number [] are = tt
 in_range-read number (run ∷ runs) are = (
   elim (run.number == number && nat_lt run.read run.series) as (λ b. (cond b (record run { read = run.read + 1 }) run).question.time < 2 ^ 48) [
@@ -55,13 +57,13 @@ in_range-read number (run ∷ runs) are = (
   in_range-read number runs are.1,
 )
 
-pub in_range-found : (number : ℕ) (runs : List Run) (run : Run) → AreInRange runs → run_of number runs ≡ Some run → run.question.time < 2 ^ 48
+pub in_range-found : (number : ℕ) (runs : List (Run Question)) (run : Run Question) → AreInRange runs → run_of number runs ≡ Some run → run.question.time < 2 ^ 48
 in_range-found number [] run are is = absurd cc
 in_range-found number (first ∷ runs) run are is = go (first.number == number) is (in_range-found number runs run are.1)
   where
     go : (b : Bool) → cond b (Some first) (run_of number runs) ≡ Some run → (run_of number runs ≡ Some run → run.question.time < 2 ^ 48)
         → run.question.time < 2 ^ 48
-    go true same more = subst (λ (r : Run). r.question.time < 2 ^ 48) (ap (λ o. unwrap_or o first) same) are.0
+    go true same more = subst (λ (r : Run Question). r.question.time < 2 ^ 48) (ap (λ o. unwrap_or o first) same) are.0
     go false there more = more there
 
 pub ruleset times = (in_range-append, in_range-filter, in_range-read, in_range-found)

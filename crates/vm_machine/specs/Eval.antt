@@ -5,7 +5,9 @@ use Rattle.vm_labels.specs.Selected.{selected}
 use Rattle.vm_labels.specs.declared.pair.Pair.{Pair}
 use Rattle.vm_labels.specs.declared.row.Row.{Row}
 use Rattle.vm_dedup.specs.Visible.{visible}
+use Rattle.vm_machine.specs.Machine.{Meaning}
 use Rattle.vm_machine.specs.Window.{default_rollup}
+use Rattle.vm_machine.specs.declared.question.Evaluated.{Evaluated}
 use Rattle.vm_machine.specs.declared.question.Question.{Question}
 use Rattle.vm_machine.specs.declared.question.Valued.{Valued}
 
@@ -36,3 +38,10 @@ valued d question rows labels =
 -- each selected series that has a value at the question's time, with that value
 abbrev pub eval : ℕ → Question → List Row → List Valued
 eval d question rows = present (map (valued d question rows) (series question rows))
+
+-- what questions mean to a machine: each comes to its time with these values
+abbrev pub instant : Meaning Question Evaluated
+instant = record {
+  selects = series;
+  comes_to = λ d question rows. record { time = question.time; values = eval d question rows };
+}

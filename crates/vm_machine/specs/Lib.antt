@@ -1,6 +1,6 @@
 pub mod Batches
 pub mod Eval
 pub mod Found
-pub mod InRange
 pub mod Machine
 pub mod Window
+pub mod inner

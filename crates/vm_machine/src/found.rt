@@ -15,8 +15,9 @@ ghost use Rattle.vm_labels.specs.Labels.{value_in, label_cmp};
 ghost use Rattle.vm_labels.specs.Selected.{selects, meets};
 ghost use Rattle.vm_labels.specs.declared.row.Row.{Row as RowOf};
 ghost use Rattle.vm_machine.specs.Eval.{no_pattern, lookback};
-ghost use Rattle.vm_machine.specs.Found.{found, sample_within, at, IsPut, values_of, value_of_entry};
+ghost use Rattle.vm_machine.specs.Found.{found, values_of, value_of_entry};
 ghost use Rattle.vm_machine.specs.Window.{is_within};
+ghost use Rattle.vm_machine.specs.inner.Put.{sample_within, at, IsPut};
 
 use crate::question::{Question, Valued};
 use crate::window::{is_within, later};

@@ -21,6 +21,6 @@ mod window;
 pub use batches::Batches;
 pub use found::Found;
 pub use machine::Machine;
-pub use question::{Question, Valued};
+pub use question::{Evaluated, Question, Valued};
 pub use refusal::Refusal;
 pub use run::Run;

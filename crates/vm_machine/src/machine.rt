@@ -3,12 +3,12 @@
 ghost use Rattle.std.specs.Prelude.{◌≡◌, [], ◌++◌, List as ListOf, take, Ok, None, ◌<◌, ◌^◌, IfOk, OnOk, if◌then◌else◌};
 ghost use Rattle.vm_labels.specs.declared.row.Row.{Row as RowOf};
 ghost use Rattle.vm_machine.specs.Found.{found as found_in};
-ghost use Rattle.vm_machine.specs.Eval.{eval};
+ghost use Rattle.vm_machine.specs.Eval.{eval, instant};
 ghost use Rattle.std.specs.Option.{is_some};
 ghost use Rattle.vm_machine.specs.Machine.{run_of, rows_of, Steps, import, begin, read, end, close, accepted, begun, was_read, complete, values, closed, as_answer};
 
 use crate::found::Found;
-use crate::question::{Question, Valued};
+use crate::question::{Evaluated, Question, Valued};
 use crate::refusal::Refusal;
 use crate::run::{Run, add_run, count_read, remove_run, run_of};
 use std::alloc::{AllocError, Global};
@@ -24,16 +24,17 @@ pub struct Machine {
     accepted: List<Batch>,
     /// How many rows the accepted batches have.
     rows: usize,
-    runs: Vec<Run>,
+    runs: Vec<Run<Question>>,
 }
 
 impl Model for Machine {
     ghost use Rattle.std.specs.Prelude.{◌≡◌, ◌≤◌};
     ghost use Rattle.vm_machine.specs.Batches.{row_count};
-    ghost use Rattle.vm_machine.specs.InRange.{AreInRange};
     ghost use Rattle.vm_machine.specs.Machine.{State};
+    ghost use Rattle.vm_machine.specs.declared.question.Question.{Question};
+    ghost use Rattle.vm_machine.specs.inner.InRange.{AreInRange};
 
-    ghost Value = { State };
+    ghost Value = { State Question };
 
     ghost view = { λ m. record { accepted = m.accepted; durable = 0; interval = 0; runs = m.runs.items } };
 
@@ -54,7 +55,7 @@ impl Machine {
 
     /// Takes a batch behind those that were accepted.
     pub fn import(&mut self, batch: Batch) -> Result<(), Refusal>
-        ensures { Steps self.old (import batch) self.new (as_answer (λ _. accepted) result) }
+        ensures { Steps instant self.old (import batch) self.new (as_answer (λ _. accepted) result) }
     {
         let rows = self.rows.saturating_add(batch.rows.len());
         if rows as u64 > MAX_PENDING_ROWS || self.accepted.len() as u64 >= MAX_PENDING_BATCHES {
@@ -77,7 +78,7 @@ impl Machine {
     pub fn begin(&mut self, alloc: Global, number: u64, question: Question) -> Result<(), Refusal>
         requires free { run_of number self.old.runs ≡ None }
         requires time { question.time < 2 ^ 48 }
-        ensures { Steps self.old (begin number (Ok question)) self.new (as_answer (λ _. begun) result) }
+        ensures { Steps instant self.old (begin number question) self.new (as_answer (λ _. begun) result) }
     {
         if self.runs.len() as u64 >= MAX_VIEWS {
             return Err(Refusal::ViewsFull);
@@ -97,7 +98,7 @@ impl Machine {
     #[tactic(auto, using(crate::proofs::RunLaws::times))]
     /// Reads one series of a run. Whether there was one that it hadn't read.
     pub fn read(&mut self, number: u64) -> Result<bool, Refusal>
-        ensures { Steps self.old (read number) self.new
+        ensures { Steps instant self.old (read number) self.new
             (as_answer (λ some. if some then was_read else complete) result) }
     {
         let Some(run) = run_of(&self.runs, number) else {
@@ -110,11 +111,10 @@ impl Machine {
         Ok(true)
     }
 
-    /// Ends a run: the time of its question, and each series that has a value then.
-    pub fn end(&mut self, alloc: Global, number: u64) -> Result<(u64, List<Valued>), Refusal>
-        ensures step { Steps self.old (end number) self.new
-            (as_answer (λ given. values given.0 given.1) result) }
-        ensures time { IfOk result (λ given. given.0 < 2 ^ 48) }
+    /// Ends a run: what its question comes to.
+    pub fn end(&mut self, alloc: Global, number: u64) -> Result<Evaluated, Refusal>
+        ensures step { Steps instant self.old (end number) self.new (as_answer values result) }
+        ensures time { IfOk result (λ evaluated. evaluated.time < 2 ^ 48) }
     {
         let Some(run) = run_of(&self.runs, number) else {
             return Err(Refusal::UnknownRun { run: number });
@@ -122,12 +122,13 @@ impl Machine {
         let time = run.question.time;
         let values = values_of(alloc, run, self.accepted.as_slice());
         remove_run(&mut self.runs, number);
-        Ok((time, values?))
+        let values = values?;
+        Ok(Evaluated { time, values })
     }
 
     /// Closes a run.
     pub fn close(&mut self, number: u64) -> Result<(), Refusal>
-        ensures { Steps self.old (close number) self.new (as_answer (λ _. closed) result) }
+        ensures { Steps instant self.old (close number) self.new (as_answer (λ _. closed) result) }
     {
         if !self.is_open(number) {
             return Err(Refusal::UnknownRun { run: number });
@@ -137,9 +138,9 @@ impl Machine {
     }
 }
 
-/// What a run answers.
+/// The values that the question of a run comes to.
 #[tactic(auto, using(crate::proofs::FoundLaws::found_values))]
-fn values_of(alloc: Global, run: &Run, accepted: &[Batch]) -> Result<List<Valued>, AllocError>
+fn values_of(alloc: Global, run: &Run<Question>, accepted: &[Batch]) -> Result<List<Valued>, AllocError>
     ensures { IfOk result (λ values. values
         ≡ eval 0 run.now.question (rows_of (take run.now.accepted accepted.now))) }
 {

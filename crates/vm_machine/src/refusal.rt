@@ -8,10 +8,6 @@ use std::alloc::AllocError;
 pub enum Refusal {
     /// More than 4,194,304 rows would wait to be written, or 4,096 batches do.
     PendingFull,
-    /// The range of time ends after 2^48 - 1 ms.
-    BadRange,
-    /// The expression is of a form that isn't read yet.
-    NotBuilt,
     /// 64 runs are open.
     ViewsFull,
     /// No run of this number is open.

@@ -1,5 +1,5 @@
 use Rattle.std.proofs.Common.{rules, ◌==◌, not, subst, sym}
-use Rattle.vm_machine.specs.InRange.{AreInRange}
+use Rattle.vm_machine.specs.inner.InRange.{AreInRange}
 use Rattle.vm_machine.proofs.RunLaws.{in_range-filter}
 use Rattle.std.proofs.lemmas.Fn.{filter_same}
 use Rattle.vm_machine.proofs.run.remove_run.Goals as goal

@@ -1,5 +1,5 @@
 use Rattle.std.proofs.Common.{sym, ◌∙◌, subst}
-use Rattle.vm_machine.specs.Found.{IsPut}
+use Rattle.vm_machine.specs.inner.Put.{IsPut}
 use Rattle.vm_machine.proofs.FoundLaws.{found-put, found-skipped}
 use Rattle.vm_machine.proofs.found.Found.add.Goals as goal
 
