@@ -236,7 +236,7 @@ line_spells labels ss can texts =
     (no_more_members no_space)))))))))
     no_space)
 
-line_outcome : (labels : List Pair) (ss : List Stamped) (can : CanBeRead labels ss) (texts : AllByRecursion IsText labels) 
+line_outcome : (labels : List Pair) (ss : List Stamped) (can : CanBeRead labels ss) (texts : AllByRecursion IsText labels)
     → outcome sample_reading (tree labels texts ss) ≡ rows_again labels ss
 line_outcome labels ss can texts =
     rw (

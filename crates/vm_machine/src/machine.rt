@@ -140,7 +140,11 @@ impl Machine {
 
 /// The values that the question of a run comes to.
 #[tactic(auto, using(crate::proofs::FoundLaws::found_values))]
-fn values_of(alloc: Global, run: &Run<Question>, accepted: &[Batch]) -> Result<List<Valued>, AllocError>
+fn values_of(
+    alloc: Global,
+    run: &Run<Question>,
+    accepted: &[Batch],
+) -> Result<List<Valued>, AllocError>
     ensures { IfOk result (λ values. values
         ≡ eval 0 run.now.question (rows_of (take run.now.accepted accepted.now))) }
 {

@@ -83,12 +83,14 @@ pub imported : (body : BodyOf) (passed : List (List ℕ)) (before now : State) (
     → Imports body.format body.time passed before now text
 imported body passed before now all text gathers is accepts line =
     let means = said body.format body.time passed in
-    let these : all ≡ batches means = is ∙ sym (gathers.batches []) ∙ ap batches_of (append-nil (map or_none means)) in
-    (means, lines_mean body.format body.time passed,
-    subst (λ t. BatchesCome means before now t)
-    (sym (line ∙ ap (λ list. accepted_line (length list) (row_count list) body.skipped) these
-    ∙ ap (accepted_line (length (batches means)) (row_count (batches means))) gathers.skips))
-    (all_accepted now (subst (λ list. Accepts before list now) these accepts)))
+    let these : all ≡ batches means = is ∙ sym (gathers.batches []) ∙ ap batches_of (append-nil (map or_none means)) in (
+      means,
+      lines_mean body.format body.time passed,
+      subst (λ t. BatchesCome means before now t)
+          (sym (line ∙ ap (λ list. accepted_line (length list) (row_count list) body.skipped) these
+          ∙ ap (accepted_line (length (batches means)) (row_count (batches means))) gathers.skips))
+          (all_accepted now (subst (λ list. Accepts before list now) these accepts)),
+    )
 
 -- a body of which a batch was refused
 pub refused_body : (body : BodyOf) (passed : List (List ℕ)) (before now : State) (all : List Batch) (why : Refusal) (text : List ℕ)
@@ -96,10 +98,12 @@ pub refused_body : (body : BodyOf) (passed : List (List ℕ)) (before now : Stat
     → Imports body.format body.time passed before now text
 refused_body body passed before now all why text gathers is refuses line =
     let means = said body.format body.time passed in
-    let these : all ≡ batches means = is ∙ sym (gathers.batches []) ∙ ap batches_of (append-nil (map or_none means)) in
-    (means, lines_mean body.format body.time passed,
-    subst (λ t. BatchesCome means before now t) (sym line)
-    (one_refused now why (subst (λ list. Refuses before list now why) these refuses)))
+    let these : all ≡ batches means = is ∙ sym (gathers.batches []) ∙ ap batches_of (append-nil (map or_none means)) in (
+      means,
+      lines_mean body.format body.time passed,
+      subst (λ t. BatchesCome means before now t) (sym line)
+          (one_refused now why (subst (λ list. Refuses before list now why) these refuses)),
+    )
 
 -- what holds in any case holds where there is an error
 pub on_err : {A E P : Type 0} (result : Result A E) → P → OnErr result P

@@ -51,7 +51,9 @@ row_step now done start before after line so_far first =
 pub answer_from : (name : List ℕ) (time now : ℕ) (bytes : List ℕ) (asked : Question) (f : List (List Pair × Option Stamped)) (values : List Valued) (body : List ℕ)
     → asked ≡ question name time → f ≡ found asked (rows now (lines bytes)) → values ≡ values_of f → body ≡ reply time values
     → IsLastAnswer name time now bytes body
-answer_from name time now bytes asked f values body is there held written =
-    (said Prom now (lines bytes), lines_mean Prom now (lines bytes),
-    written ∙ ap (reply time) (held ∙ ap values_of there ∙ found_values asked (rows now (lines bytes)))
-    ∙ ap (λ q. reply time (eval 0 q (rows now (lines bytes)))) is)
+answer_from name time now bytes asked f values body is there held written = (
+  said Prom now (lines bytes),
+  lines_mean Prom now (lines bytes),
+  written ∙ ap (reply time) (held ∙ ap values_of there ∙ found_values asked (rows now (lines bytes)))
+      ∙ ap (λ q. reply time (eval 0 q (rows now (lines bytes)))) is,
+)
