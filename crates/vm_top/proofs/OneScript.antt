@@ -10,7 +10,7 @@ use Rattle.vm_machine.specs.declared.question.Evaluated.{Evaluated}
 use Rattle.vm_machine.specs.declared.question.Question.{Question}
 use Rattle.vm_machine.specs.declared.refusal.Refusal.{Refusal}
 use Rattle.vm_machine.specs.declared.refusal.Refusal.TheVariants.{PendingFull, ViewsFull, UnknownRun, RunTaken, Memory}
-use Rattle.vm_machine.specs.declared.run.Run.{Run}
+use Rattle.vm_machine.specs.declared.run.Run.{Run as OpenRun}
 use Rattle.vm_script.specs.Command.{command_of}
 use Rattle.vm_script.specs.declared.command.Command.{Command}
 use Rattle.vm_script.specs.declared.command.Command.TheVariants.{Import, Query, Run, End, Close}
@@ -130,7 +130,7 @@ same_asks run (Ok question) mid m n s t one two held_s held_t =
 same_asks run (Err fault) mid m n s t one two held_s held_t =
     (one.0 ∙ sym two.0, go (run_of run mid.runs) one.1 two.1)
   where
-    go : (there : Option (Run Question)) → IsToldOf fault run there s → IsToldOf fault run there t → s ≡ t
+    go : (there : Option (OpenRun Question)) → IsToldOf fault run there s → IsToldOf fault run there t → s ≡ t
     go (Some open_run) is other = is ∙ sym other
     go None (inl is) (inl other) = is ∙ sym other
     go None (inl is) (inr other) = absurd (held_t other)

@@ -15,7 +15,7 @@ use Rattle.vm_machine.specs.declared.question.Evaluated.{Evaluated}
 use Rattle.vm_machine.specs.declared.question.Question.{Question}
 use Rattle.vm_machine.specs.declared.refusal.Refusal.{Refusal}
 use Rattle.vm_machine.specs.declared.refusal.Refusal.TheVariants.{RunTaken, Memory}
-use Rattle.vm_machine.specs.declared.run.Run.{Run}
+use Rattle.vm_machine.specs.declared.run.Run.{Run as OpenRun}
 use Rattle.vm_script.specs.Command.{command_of}
 use Rattle.vm_script.specs.Expression.{selector_of}
 use Rattle.vm_script.specs.declared.command.Command.{Command}
@@ -54,7 +54,7 @@ pub record Answers (run : ℕ) (event : Event Question) (before now : State) (te
 
 -- what is printed of a query that asks for nothing: that its run is taken, or else what is wrong with it,
 -- unless memory runs out while it is read
-abbrev pub IsToldOf : QueryFault → ℕ → Option (Run Question) → List ℕ → Type 0
+abbrev pub IsToldOf : QueryFault → ℕ → Option (OpenRun Question) → List ℕ → Type 0
 IsToldOf fault run (Some taken) text = text ≡ refused_line (RunTaken run)
 IsToldOf fault run None text = (text ≡ bad_query_line fault) ⊎ (text ≡ refused_line Memory)
 
