@@ -36,6 +36,10 @@ asks_taken state run (Err fault) text some is = (refl, go (run_of run state.runs
     go None some = absurd cc
     go (Some open_run) some = is
 
+pub none_there : (there : Option (Run Question)) → is_some there ≡ false → there ≡ None
+none_there None is = refl
+none_there (Some open_run) is = absurd cc
+
 -- a query that asks for nothing
 pub asks_nothing : (state : State) (run : ℕ) (asked : Result Question QueryFault) (fault : QueryFault) (text : List ℕ)
     → asked ≡ Err fault → run_of run state.runs ≡ None → text ≡ bad_query_line fault → Asks run asked state state text
