@@ -1,5 +1,5 @@
 -- A script that is played line by line.
-use Rattle.std.proofs.Common.{◌≡◌, ℕ, ◌+◌, ◌≤◌, List, [], ◌∷◌, ◌++◌, length, length-append, append_assoc, append-nil, take, Option, Some, None, Ok, Err, true, false, arith, IsErrOf, refl, sym, ap, ◌∙◌, subst, inl, inr, ◌⊎◌, rules}
+use Rattle.std.proofs.Common.{◌≡◌, ℕ, ◌+◌, ◌≤◌, List, [], ◌∷◌, ◌++◌, length, length-append, append_assoc, append-nil, take, Option, Some, None, Ok, Err, true, false, arith, IsErrOf, refl, sym, ap, ◌∙◌, subst, inl, ◌⊎◌, rules}
 use Rattle.std.proofs.lemmas.List.Concat.{flat_map-append}
 use Rattle.std.proofs.Math.Seq.{take-append-add}
 use Rattle.std.specs.Option.{option_map, unwrap_or}
