@@ -26,12 +26,12 @@ still_there f (x ∷ xs) zero d within = refl
 still_there f (x ∷ xs) (suc i) d within = still_there f xs i d (omega arith)
 
 -- a run is begun where its number is free and there is room
-pub begins : {Q A : Type 0} (meaning : Meaning Q A) (there : Option (Run Q)) (state : State Q) (number : ℕ) (question : Q)
+pub begins-free : {Q A : Type 0} (meaning : Meaning Q A) (there : Option (Run Q)) (state : State Q) (number : ℕ) (question : Q)
     → there ≡ None → nat_le 64 (length state.runs) ≡ false
     → begin_step meaning there state number question
     ≡ (record state { runs = state.runs ++ new_run meaning state number question ∷ [] }, Ok begun)
-begins meaning None state number question free few = rw few refl
-begins meaning (Some run) state number question free few = absurd cc
+begins-free meaning None state number question free few = rw few refl
+begins-free meaning (Some run) state number question free few = absurd cc
 
 -- the times of runs stay in range where a run is added, taken out or read, and each has such a time
 
@@ -65,5 +65,7 @@ in_range-found number (first ∷ runs) run are is = go (first.number == number) 
         → run.question.time < 2 ^ 48
     go true same more = subst (λ (r : Run Question). r.question.time < 2 ^ 48) (ap (λ o. unwrap_or o first) same) are.0
     go false there more = more there
+
+pub ruleset begins = (begins-free, in_range-append)
 
 pub ruleset times = (in_range-append, in_range-filter, in_range-read, in_range-found)

@@ -39,7 +39,7 @@ valued d question rows labels =
 abbrev pub eval : ℕ → Question → List Row → List Valued
 eval d question rows = present (map (valued d question rows) (series question rows))
 
--- what questions mean to a machine: each comes to its time with these values
+-- what the questions of instant queries mean: each comes to its time with these values
 abbrev pub instant : Meaning Question Evaluated
 instant = record {
   selects = series;

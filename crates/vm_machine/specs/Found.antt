@@ -1,5 +1,5 @@
--- The series that a question selects, each with its last sample in the window: what `Found` gathers. The
--- machine's definitions don't cite it.
+-- The series that a question selects, each with its last sample in the window: what `Found` holds.
+-- The machine's definitions don't cite it.
 use Rattle.std.specs.Option.{option_map}
 use Rattle.std.specs.Prelude.{List, Option, map}
 use Rattle.vm_base.specs.declared.stamped.Stamped.{Stamped}
@@ -17,7 +17,8 @@ last_of_series question rows labels = last_within question.time lookback (visibl
 
 -- each selected series with that
 unfoldable pub found : Question → List Row → List (List Pair × Option Stamped)
-found question rows = map (λ labels. (labels, last_of_series question rows labels)) (series question rows)
+found question rows =
+    map (λ labels. (labels, last_of_series question rows labels)) (series question rows)
 
 -- the value of a series, if it has a sample in the window
 abbrev pub value_of_entry : (List Pair × Option Stamped) → Option Valued

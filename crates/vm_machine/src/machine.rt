@@ -17,8 +17,8 @@ use vm_base::List;
 use vm_base::limits::{MAX_PENDING_BATCHES, MAX_PENDING_ROWS, MAX_VIEWS};
 use vm_labels::{Batch, Row};
 
-/// A store that keeps its batches in one list, in memory alone: none would survive a stop. It removes no
-/// duplicates.
+/// A store that keeps its batches in one list, in memory alone: none would survive a stop. It
+/// removes no duplicates, and answers instant queries.
 #[derive(Drop)]
 pub struct Machine {
     accepted: List<Batch>,
@@ -55,7 +55,8 @@ impl Machine {
 
     /// Takes a batch behind those that were accepted.
     pub fn import(&mut self, batch: Batch) -> Result<(), Refusal>
-        ensures { Steps instant self.old (import batch) self.new (as_answer (λ _. accepted) result) }
+        ensures { Steps instant self.old (import batch) self.new
+            (as_answer (λ _. accepted) result) }
     {
         let rows = self.rows.saturating_add(batch.rows.len());
         if rows as u64 > MAX_PENDING_ROWS || self.accepted.len() as u64 >= MAX_PENDING_BATCHES {
@@ -78,7 +79,8 @@ impl Machine {
     pub fn begin(&mut self, alloc: Global, number: u64, question: Question) -> Result<(), Refusal>
         requires free { run_of number self.old.runs ≡ None }
         requires time { question.time < 2 ^ 48 }
-        ensures { Steps instant self.old (begin number question) self.new (as_answer (λ _. begun) result) }
+        ensures { Steps instant self.old (begin number question) self.new
+            (as_answer (λ _. begun) result) }
     {
         if self.runs.len() as u64 >= MAX_VIEWS {
             return Err(Refusal::ViewsFull);
@@ -111,6 +113,7 @@ impl Machine {
         Ok(true)
     }
 
+    #[tactic(auto, using(crate::proofs::RunLaws::times))]
     /// Ends a run: what its question comes to.
     pub fn end(&mut self, alloc: Global, number: u64) -> Result<Evaluated, Refusal>
         ensures step { Steps instant self.old (end number) self.new (as_answer values result) }
@@ -126,6 +129,7 @@ impl Machine {
         Ok(Evaluated { time, values })
     }
 
+    #[tactic(auto, using(crate::proofs::RunLaws::times))]
     /// Closes a run.
     pub fn close(&mut self, number: u64) -> Result<(), Refusal>
         ensures { Steps instant self.old (close number) self.new (as_answer (λ _. closed) result) }

@@ -2,8 +2,8 @@
 
 use std::alloc::AllocError;
 
-/// Why something was refused. What was refused changed nothing, but that a run which was to end is gone
-/// after want of memory.
+/// Why something was refused. What was refused changed nothing, but that a run which was to end is
+/// gone where memory ran out.
 #[derive(Clone, Copy, Debug, PartialEq, Eq)]
 pub enum Refusal {
     /// More than 4,194,304 rows would wait to be written, or 4,096 batches do.

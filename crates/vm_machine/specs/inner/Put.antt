@@ -27,7 +27,9 @@ sample_at None = None
 sample_at (Some last) = last
 
 -- a sample came to a series, and nothing else changed
-abbrev pub IsPut : List (List Pair × Option Stamped) → List Pair → Option Stamped → List (List Pair × Option Stamped) → Type 0
+abbrev pub IsPut : List (List Pair × Option Stamped) → List Pair → Option Stamped
+    → List (List Pair × Option Stamped) → Type 0
 IsPut before labels here now =
     (q : List Pair) → at now q
-    ≡ (if is_eq (label_cmp labels q) then Some (later is_in_order (sample_at (at before labels)) here) else at before q)
+    ≡ (if is_eq (label_cmp labels q)
+    then Some (later is_in_order (sample_at (at before labels)) here) else at before q)
