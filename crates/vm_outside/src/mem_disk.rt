@@ -1,10 +1,9 @@
 //! A disk in memory, which tells what it holds and what a crash may leave.
-ghost use Rattle.std.specs.Prelude.{◌≡◌, ◌≤◌, ◌+◌, ℕ, List, [], ◌∷◌, ◌++◌, true, false, Bool, length, reverse, ◌^◌, ◌⊎◌, nat_eq, if◌then◌else◌, IsOk, IsErr, IfOk, OnOk, OnErr, MatchResult, min, ◌-◌, take, drop};
+ghost use Rattle.std.specs.Prelude.{◌≡◌, ◌≤◌, ◌+◌, ℕ, List, [], ◌∷◌, ◌++◌, true, false, length, reverse, ◌^◌, ◌⊎◌, nat_eq, if◌then◌else◌, IfOk, OnOk, OnErr, MatchResult, min, ◌-◌, take, drop};
 ghost use Rattle.vm_outside.specs.Files.{content};
 ghost use Rattle.vm_outside.specs.Outside.{raised};
 ghost use Rattle.std.specs.List.{list_all};
-ghost use Rattle.vm_outside.specs.MemDisk.{given, remains, remains_since, replayed, unsynced, written, fits};
-ghost use Rattle.vm_outside.specs.declared.disk_call.DiskCall.{DiskCall as Call};
+ghost use Rattle.vm_outside.specs.MemDisk.{replayed, unsynced, written, fits};
 ghost use Rattle.vm_outside.specs.declared.disk_call.DiskCall.TheVariants.{Len, Read, Write, Sync, DropFile};
 ghost use Rattle.vm_outside.specs.MemDiskLaws.{reads_as_left, counted_now, only_last_now};
 
@@ -284,7 +283,7 @@ fn give(bytes: &[u8], at: u64, into: &mut [u8]) -> usize
 }
 
 impl Disk for MemDisk {
-    ghost use Rattle.std.specs.Prelude.{is_ok, is_err};
+    ghost use Rattle.std.specs.Prelude.{is_ok};
     ghost use Rattle.vm_outside.specs.MemDiskState.{IsMade, files_of, given_by, state_of};
     ghost use Rattle.vm_outside.specs.Outside.{CountsEach};
     ghost use Rattle.vm_outside.specs.Disk.{Changes, Dropped, Emptied, Holds, OnlyChanges, OnlyReads, Passes, Quiet, Torn};

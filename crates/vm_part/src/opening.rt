@@ -1,12 +1,11 @@
 //! A part that is read from a file.
 
-ghost use Rattle.std.specs.Prelude.{◌≡◌, ◌≤◌, List, length, take, IfErr, IfOk, IsErrOf, IsTrue, ⊤};
+ghost use Rattle.std.specs.Prelude.{◌≡◌, ◌≤◌, List, length, take, IfErr, IfOk, IsErrOf, IsTrue};
 ghost use Rattle.vm_outside.specs.Disk.{Each, Elapses, OnlyReads};
 ghost use Rattle.vm_outside.specs.Outside.{Rose};
 ghost use Rattle.vm_outside.specs.declared.files.ReadFault.TheVariants.{Failed as NotRead};
 ghost use Rattle.vm_part.specs.Files.{IsDamage, IsFileFault, IsNoDamage, IsOpened};
 ghost use Rattle.vm_part.specs.Part.{IsPart, Stored};
-ghost use Rattle.vm_part.specs.declared.fault.PartFault.TheVariants.{DiskFault as NoDisk};
 
 use crate::{MemPart, PartFault, PartReader, ReadFault};
 use std::alloc::Global;
