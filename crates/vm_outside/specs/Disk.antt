@@ -100,7 +100,8 @@ pub record OnlyReads (bytes : ℕ) (old new : DiskState) : Type 0 where
 
 -- What calls leave that change this file alone and read nothing: a crash leaves the file as it
 -- might have been left before, after the step.
-pub record OnlyChanges (file : ℕ) (step : List ℕ → List ℕ → Type 0) (old new : DiskState) : Type 0 where
+pub record OnlyChanges (file : ℕ) (step : List ℕ → List ℕ → Type 0)
+    (old new : DiskState) : Type 0 where
   pub honest : new.honest ≡ old.honest
   pub others : IsTrue old.honest → (other : ℕ) → other ≢ file → new.reads other ≡ old.reads other
   pub bytes_read : IsTrue old.honest → new.bytes_read ≡ old.bytes_read

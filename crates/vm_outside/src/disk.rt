@@ -21,13 +21,15 @@ pub trait Disk {
     /// The length of the file, in bytes.
     fn len(&mut self, file: u64) -> Result<u64, Failed>
         // What `Ok` holds.
-        ensures value { IsTrue (state self.old).honest → IfOk result (λ n. n ≡ length ((state self.old).reads file)) }
+        ensures value { IsTrue (state self.old).honest
+            → IfOk result (λ n. n ≡ length ((state self.old).reads file)) }
         // What stays.
         ensures reads { OnlyReads 0 (state self.old) (state self.new) }
         // At each moment.
         ensures time { Passes (state self.old) (state self.new) }
         // When the error comes.
-        ensures cause { OnErr result (Rose (state self.old).read_faults (state self.new).read_faults) };
+        ensures cause { OnErr result
+            (Rose (state self.old).read_faults (state self.new).read_faults) };
 
     /// Puts the bytes of the file from `at` on at the front of `into` and answers how many: as many
     /// as fit and stand there up to the file's end.
@@ -46,39 +48,46 @@ pub trait Disk {
         // At each moment.
         ensures time { Passes (state self.old) (state self.new) }
         // When the error comes.
-        ensures cause { OnErr result (Rose (state self.old).read_faults (state self.new).read_faults) };
+        ensures cause { OnErr result
+            (Rose (state self.old).read_faults (state self.new).read_faults) };
 
     /// Puts all of `bytes` into the file from `at` on, over what stands there and past the end.
     /// Until a `sync` of the file a crash may leave any bytes in that range, also where this call
     /// fails.
     fn write(&mut self, file: u64, at: u64, bytes: &[u8]) -> Result<(), Failed>
         requires fits { at + length bytes.now ≤ 2 ^ 62 }
-        requires no_gap { IsTrue (state self.old).honest → at ≤ length ((state self.old).reads file) }
+        requires no_gap { IsTrue (state self.old).honest
+            → at ≤ length ((state self.old).reads file) }
         // What `Ok` holds, and what an error leaves.
         ensures written { IsTrue (state self.old).honest → OnOk result
             (Changes file (Holds at bytes.now) (state self.old).reads (state self.new).reads) }
         ensures torn { IsTrue (state self.old).honest → OnErr result
-            (Changes file (Torn at (length bytes.now)) (state self.old).reads (state self.new).reads) }
+            (Changes file (Torn at (length bytes.now))
+            (state self.old).reads (state self.new).reads) }
         // What stays.
-        ensures changes { OnlyChanges file (Torn at (length bytes.now)) (state self.old) (state self.new) }
+        ensures changes { OnlyChanges file (Torn at (length bytes.now))
+            (state self.old) (state self.new) }
         // At each moment.
         ensures time { Passes (state self.old) (state self.new) }
         // When the error comes.
-        ensures cause { OnErr result (Rose (state self.old).write_faults (state self.new).write_faults) };
+        ensures cause { OnErr result
+            (Rose (state self.old).write_faults (state self.new).write_faults) };
 
     /// Waits until a crash leaves the file as reads give it.
     fn sync(&mut self, file: u64) -> Result<(), Failed>
         // What `Ok` holds.
-        ensures durable { IsTrue (state self.old).honest → OnOk result
-            ((left : List ℕ) → (state self.new).may_leave file left → left ≡ (state self.old).reads file) }
+        ensures durable { IsTrue (state self.old).honest → OnOk result ((left : List ℕ)
+            → (state self.new).may_leave file left → left ≡ (state self.old).reads file) }
         // What stays.
         ensures quiet { Quiet (state self.old) (state self.new) }
-        ensures bytes_read { IsTrue (state self.old).honest → (state self.new).bytes_read ≡ (state self.old).bytes_read }
+        ensures bytes_read { IsTrue (state self.old).honest
+            → (state self.new).bytes_read ≡ (state self.old).bytes_read }
         ensures read_faults { (state self.new).read_faults ≡ (state self.old).read_faults }
         // At each moment.
         ensures time { Passes (state self.old) (state self.new) }
         // When the error comes.
-        ensures cause { OnErr result (Rose (state self.old).write_faults (state self.new).write_faults) };
+        ensures cause { OnErr result
+            (Rose (state self.old).write_faults (state self.new).write_faults) };
 
     /// Makes the file empty at once. Until its next `sync` a crash may leave it with any bytes, no
     /// longer than it might have left it before.
@@ -87,13 +96,15 @@ pub trait Disk {
         ensures dropped { IsTrue (state self.old).honest → OnOk result
             (Changes file Emptied (state self.old).reads (state self.new).reads) }
         ensures torn { IsTrue (state self.old).honest → OnErr result
-            (((state self.new).reads ≡ (state self.old).reads) ⊎ Changes file Emptied (state self.old).reads (state self.new).reads) }
+            (((state self.new).reads ≡ (state self.old).reads)
+            ⊎ Changes file Emptied (state self.old).reads (state self.new).reads) }
         // What stays.
         ensures changes { OnlyChanges file Dropped (state self.old) (state self.new) }
         // At each moment.
         ensures time { Passes (state self.old) (state self.new) }
         // When the error comes.
-        ensures cause { OnErr result (Rose (state self.old).write_faults (state self.new).write_faults) };
+        ensures cause { OnErr result
+            (Rose (state self.old).write_faults (state self.new).write_faults) };
 
     /// What reads give of a file is what a crash may leave of it.
     ghost reads_as_left: { (disk : Self) → IsTrue (state disk).honest → (file : ℕ)

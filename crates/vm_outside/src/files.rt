@@ -36,19 +36,24 @@ impl From<AllocError> for ReadFault {
 /// them. After an error a crash may leave any bytes in that range.
 pub fn write_and_sync<D: Disk>(disk: &mut D, file: u64, at: u64, bytes: &[u8]) -> Result<(), Failed>
     requires fits { at + length bytes.now ≤ 2 ^ 62 }
-    requires no_gap { IsTrue (D.state disk.old).honest → at ≤ length ((D.state disk.old).reads file) }
+    requires no_gap { IsTrue (D.state disk.old).honest
+        → at ≤ length ((D.state disk.old).reads file) }
     // What `Ok` holds.
     ensures written { IsTrue (D.state disk.old).honest → OnOk result
         (Changes file (Holds at bytes.now) (D.state disk.old).reads (D.state disk.new).reads) }
     ensures durable { IsTrue (D.state disk.old).honest → OnOk result ((left : List ℕ)
-        → (D.state disk.new).may_leave file left → Holds at bytes.now ((D.state disk.old).reads file) left) }
+        → (D.state disk.new).may_leave file left
+        → Holds at bytes.now ((D.state disk.old).reads file) left) }
     // What stays.
-    ensures changes { OnlyChanges file (Torn at (length bytes.now)) (D.state disk.old) (D.state disk.new) }
+    ensures changes { OnlyChanges file (Torn at (length bytes.now))
+        (D.state disk.old) (D.state disk.new) }
     // At each moment.
-    ensures time { Elapses 2 (MayFollow file (Torn at (length bytes.now)) (D.state disk.old).may_leave)
+    ensures time { Elapses 2
+        (MayFollow file (Torn at (length bytes.now)) (D.state disk.old).may_leave)
         (D.state disk.old) (D.state disk.new) }
     // When the error comes.
-    ensures cause { OnErr result (Rose (D.state disk.old).write_faults (D.state disk.new).write_faults) }
+    ensures cause { OnErr result
+        (Rose (D.state disk.old).write_faults (D.state disk.new).write_faults) }
 {
     disk.write(file, at, bytes)?;
     disk.sync(file)
@@ -64,7 +69,8 @@ pub fn read_all<D: Disk>(alloc: Global, disk: &mut D, file: u64) -> Result<Vec<u
     // What stays.
     ensures quiet { Quiet (D.state disk.old) (D.state disk.new) }
     // At each moment.
-    ensures time { Elapses 3 (Each (D.state disk.old).may_leave) (D.state disk.old) (D.state disk.new) }
+    ensures time { Elapses 3 (Each (D.state disk.old).may_leave)
+        (D.state disk.old) (D.state disk.new) }
     // When the error comes.
     ensures cause { IsErrOf result ReadFault.Failed
         → Rose (D.state disk.old).read_faults (D.state disk.new).read_faults

@@ -27,17 +27,20 @@ pub fn open_part<D: Disk>(
     ensures part { IsTrue (D.state disk.old).honest
         → IfOk result (λ reader. reader.part.bytes ≡ take len ((D.state disk.old).reads file)) }
     // When the error comes.
-    ensures only { IsTrue (D.state disk.old).honest → (all : List Stored) → IsPart (take len ((D.state disk.old).reads file)) all
+    ensures only { IsTrue (D.state disk.old).honest → (all : List Stored)
+        → IsPart (take len ((D.state disk.old).reads file)) all
         → len ≤ length ((D.state disk.old).reads file) → IfErr result IsNoDamage }
     ensures damaged { IsTrue (D.state disk.old).honest
-        → IfErr result (λ fault. IsFileFault file len (take len ((D.state disk.old).reads file)) fault) }
+        → IfErr result (λ fault.
+        IsFileFault file len (take len ((D.state disk.old).reads file)) fault) }
     ensures damage { IfErr result (λ fault. IsDamage file len fault) }
     ensures cause { IsErrOf result PartFault.DiskFault
         → Rose (D.state disk.old).read_faults (D.state disk.new).read_faults }
     // What stays.
     ensures reads { OnlyReads len (D.state disk.old) (D.state disk.new) }
     // At each moment.
-    ensures time { Elapses 2 (Each (D.state disk.old).may_leave) (D.state disk.old) (D.state disk.new) }
+    ensures time { Elapses 2 (Each (D.state disk.old).may_leave)
+        (D.state disk.old) (D.state disk.new) }
 {
     let bytes = match read_front(alloc, disk, file, len) {
         Ok(bytes) => bytes,
@@ -65,9 +68,11 @@ fn read_front<D: Disk>(
     ensures bytes { IsTrue (D.state disk.old).honest
         → IfOk result (λ bytes. bytes.items ≡ take len ((D.state disk.old).reads file)) }
     ensures within { IfOk result (λ bytes. length bytes.items ≤ len) }
-    ensures cause { IsErrOf result NotRead → Rose (D.state disk.old).read_faults (D.state disk.new).read_faults }
+    ensures cause { IsErrOf result NotRead
+        → Rose (D.state disk.old).read_faults (D.state disk.new).read_faults }
     ensures reads { OnlyReads len (D.state disk.old) (D.state disk.new) }
-    ensures time { Elapses 2 (Each (D.state disk.old).may_leave) (D.state disk.old) (D.state disk.new) }
+    ensures time { Elapses 2 (Each (D.state disk.old).may_leave)
+        (D.state disk.old) (D.state disk.new) }
 {
     let there = disk.len(file)?;
     let mut bytes = vec![in alloc; 0; min(there, len) as usize]?;

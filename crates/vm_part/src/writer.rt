@@ -73,20 +73,23 @@ impl PartWriter {
     ///
     /// After an error the writer is unchanged, and the same call may be made again.
     pub fn finish_step<D: Disk>(&mut self, disk: &mut D) -> Result<Writing, Failed>
-        requires written { IsTrue (D.state disk.old).honest → HasWritten self.old (D.state disk.old).reads }
+        requires written { IsTrue (D.state disk.old).honest
+            → HasWritten self.old (D.state disk.old).reads }
         // What `Ok` holds, and what an error leaves.
         ensures step { IfOk result (λ writing. IsStep self.old self.new writing) }
         ensures durable { IsTrue (D.state disk.old).honest
             → IfOk result (λ writing. IsDurable self.old (D.state disk.new).may_leave writing) }
         ensures unchanged { OnErr result (self.new ≡ self.old) }
-        ensures written { IsTrue (D.state disk.old).honest → HasWritten self.new (D.state disk.new).reads }
+        ensures written { IsTrue (D.state disk.old).honest
+            → HasWritten self.new (D.state disk.new).reads }
         // What stays.
         ensures changes { OnlyChanges self.old.file (Torn self.old.done (next_len self.old))
             (D.state disk.old) (D.state disk.new) }
         // At each moment.
         ensures time { Passes (D.state disk.old) (D.state disk.new) }
         // When the error comes.
-        ensures cause { OnErr result (Rose (D.state disk.old).write_faults (D.state disk.new).write_faults) }
+        ensures cause { OnErr result
+            (Rose (D.state disk.old).write_faults (D.state disk.new).write_faults) }
     {
         let bytes = self.part.image();
         let len = min(PIECE, bytes.len() - self.done);
