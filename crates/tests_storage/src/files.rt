@@ -26,7 +26,7 @@ const FILES: &str = "\
 
 /// Writes a part, with up to a hundred steps, whichever of them fail.
 fn write_out(disk: &mut MemDisk, writer: PartWriter) -> Option<PartReader>
-    requires { HasWritten writer (⟦<MemDisk as Disk>⟧.reads disk.old) }
+    requires { HasWritten writer (⟦<MemDisk as Disk>⟧.state disk.old).reads }
 {
     let mut writer = writer;
     for _step in 0..100 {

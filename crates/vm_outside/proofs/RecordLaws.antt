@@ -1,10 +1,10 @@
 -- A disk in memory, one call after the other.
-use Rattle.std.proofs.Common.{◌≡◌, ◌≢◌, ℕ, ◌+◌, ◌<◌, Bool, true, false, ◌⊎◌, inl, inr, ⊎_elim, List, [], ◌∷◌, ◌++◌, length, reverse, take, get_or, refl, sym, ap, ◌∙◌, arith, subst, length-append}
+use Rattle.std.proofs.Common.{◌≡◌, ◌≢◌, ℕ, ◌+◌, ◌<◌, ◌≤◌, Bool, true, false, ◌⊎◌, inl, inr, ⊎_elim, List, [], ◌∷◌, ◌++◌, length, reverse, take, get_or, refl, sym, ap, ◌∙◌, arith, subst, length-append}
 use Rattle.std.specs.Prelude.{nat_eq, if◌then◌else◌}
 use Rattle.std.proofs.lemmas.Bool.Decides.{nat_tests}
 use Rattle.std.proofs.lemmas.List.{reverse-append, length-reverse, take_more}
-use Rattle.vm_outside.specs.Disk.{Image, Torn, Dropped, Follows, NoMore, Elapses}
-use Rattle.vm_outside.specs.MemDisk.{file_of, replayed, unsynced, remains, remains_since}
+use Rattle.vm_outside.specs.Disk.{Image, DiskState, Torn, Dropped, Each, Follows, NoMore, Passes}
+use Rattle.vm_outside.specs.MemDisk.{file_of, given, replayed, unsynced, remains, remains_since}
 use Rattle.vm_outside.specs.Unsynced.{IsLeft, all_synced, after_write, after_drop}
 use Rattle.vm_outside.specs.declared.disk_call.DiskCall.{DiskCall}
 use Rattle.vm_outside.specs.declared.disk_call.DiskCall.TheVariants.{Len, Read, Write, Sync, DropFile}
@@ -82,8 +82,19 @@ sync_durable first past file left is =
 
 -- the moments, one call on
 
+-- at most one call more, and what a crash may have left since a moment
+pub record Moves (before now : ℕ) (past since : ℕ → Image → Type 0) (may_leave : ℕ → List ℕ → Type 0) : Type 0 where
+  pub later : before ≤ now
+  pub by_one : now ≤ before + 1
+  pub nothing_else : (moment : ℕ) (image : Image) → moment ≤ before → since moment image
+      → past moment image ⊎ Each may_leave image
+  pub keeps : (moment : ℕ) (image : Image) → moment ≤ before → past moment image → since moment image
+
+pub passes : (old new : DiskState) → Moves old.moment new.moment old.left_since new.left_since new.may_leave → Passes old new
+passes old new is = record { later = is.later; at_most = is.by_one; nothing_else = is.nothing_else; keeps = is.keeps }
+
 elapses_more : (first : Image) (past : List DiskCall) (call : DiskCall)
-    → Elapses (length past) (length (call ∷ past)) (λ since image. remains_since first since past image)
+    → Moves (length past) (length (call ∷ past)) (λ since image. remains_since first since past image)
     (λ since image. remains_since first since (call ∷ past) image) (remains first (call ∷ past))
 elapses_more first past call = record {
   later = omega arith;
@@ -96,7 +107,7 @@ pub reverse_push : (calls : List DiskCall) (call : DiskCall) → reverse (calls 
 reverse_push calls call = reverse-append calls (call ∷ [])
 
 pub elapses_push : (first : Image) (calls later : List DiskCall) (call : DiskCall) → later ≡ calls ++ call ∷ []
-    → Elapses (length calls) (length later) (λ since image. remains_since first since (reverse calls) image)
+    → Moves (length calls) (length later) (λ since image. remains_since first since (reverse calls) image)
     (λ since image. remains_since first since (reverse later) image) (remains first (reverse later))
 elapses_push first calls later call is =
     let n : length calls ≡ length (reverse calls) = sym (length-reverse calls) in
@@ -107,7 +118,7 @@ elapses_push first calls later call is =
 
 -- no call was made
 pub elapses_not : (first : Image) (calls : List DiskCall)
-    → Elapses (length calls) (length calls) (λ since image. remains_since first since (reverse calls) image)
+    → Moves (length calls) (length calls) (λ since image. remains_since first since (reverse calls) image)
     (λ since image. remains_since first since (reverse calls) image) (remains first (reverse calls))
 elapses_not first calls = record {
   later = omega arith;
@@ -116,27 +127,34 @@ elapses_not first calls = record {
   keeps = λ since image within before. before;
 }
 
+-- a call that gives no bytes
+pub gives_none : (call : DiskCall) → ((past : List DiskCall) → given (call ∷ past) ≡ given past) → (calls later : List DiskCall)
+    → (later ≡ calls ++ call ∷ []) ⊎ (later ≡ calls) → given (reverse later) ≡ given (reverse calls)
+gives_none call none calls later (inl is) =
+    ap (λ l. given (reverse l)) is ∙ ap (λ l. given l) (reverse_push calls call) ∙ none (reverse calls)
+gives_none call none calls later (inr is) = ap (λ l. given (reverse l)) is
+
 -- the same of disks: what their files held at first, and their calls in order
 
 pub noted_elapses : (first now : Image) (calls later : List DiskCall) (call : DiskCall) → now ≡ first
     → later ≡ calls ++ call ∷ []
-    → Elapses (length calls) (length later) (λ since image. remains_since first since (reverse calls) image)
+    → Moves (length calls) (length later) (λ since image. remains_since first since (reverse calls) image)
     (λ since image. remains_since now since (reverse later) image) (remains now (reverse later))
 noted_elapses first now calls later call same is =
-    subst (λ f. Elapses (length calls) (length later) (λ since image. remains_since first since (reverse calls) image)
+    subst (λ f. Moves (length calls) (length later) (λ since image. remains_since first since (reverse calls) image)
     (λ since image. remains_since f since (reverse later) image) (remains f (reverse later)))
     (sym same) (elapses_push first calls later call is)
 
 pub may_elapse : (first now : Image) (calls later : List DiskCall) (call : DiskCall) → now ≡ first
     → (later ≡ calls ++ call ∷ []) ⊎ (later ≡ calls)
-    → Elapses (length calls) (length later) (λ since image. remains_since first since (reverse calls) image)
+    → Moves (length calls) (length later) (λ since image. remains_since first since (reverse calls) image)
     (λ since image. remains_since now since (reverse later) image) (remains now (reverse later))
 may_elapse first now calls later call same (inl is) = noted_elapses first now calls later call same is
 may_elapse first now calls later call same (inr is) =
-    subst (λ f. Elapses (length calls) (length later) (λ since image. remains_since first since (reverse calls) image)
+    subst (λ f. Moves (length calls) (length later) (λ since image. remains_since first since (reverse calls) image)
     (λ since image. remains_since f since (reverse later) image) (remains f (reverse later)))
     (sym same)
-    (subst (λ l. Elapses (length calls) (length l) (λ since image. remains_since first since (reverse calls) image)
+    (subst (λ l. Moves (length calls) (length l) (λ since image. remains_since first since (reverse calls) image)
     (λ since image. remains_since first since (reverse l) image) (remains first (reverse l)))
     (sym is) (elapses_not first calls))
 

@@ -44,30 +44,67 @@ NoMore old new = (file : ℕ) (left : List ℕ) → new file left → old file l
 abbrev pub Each : (ℕ → List ℕ → Type 0) → Image → Type 0
 Each may_leave image = (file : ℕ) → may_leave file (image file)
 
--- One call more: a crash since a moment may have left what it might have left before the call, or
--- what it may leave now.
-pub record Elapses (before now : ℕ) (past since : ℕ → Image → Type 0)
-    (may_leave : ℕ → List ℕ → Type 0) : Type 0 where
-  pub later : before ≤ now
-  pub by_one : now ≤ before + 1
-  pub nothing_else : (moment : ℕ) (image : Image) → moment ≤ before → since moment image
-      → past moment image ⊎ Each may_leave image
-  pub keeps : (moment : ℕ) (image : Image) → moment ≤ before → past moment image → since moment image
+-- An image that follows by the step from what a crash might have left.
+abbrev pub MayFollow : ℕ → (List ℕ → List ℕ → Type 0) → (ℕ → List ℕ → Type 0) → Image → Type 0
+MayFollow file step may_leave image = Follows file step may_leave (λ f left. left ≡ image f)
 
--- A crash at any moment since the old disk leaves an image with P, or one that it might have left
--- before.
-pub record Leaves {D : Type 0} (moment : D → ℕ) (left_since : D → ℕ → Image → Type 0) (old new : D)
-    (P : Image → Type 0) : Type 0 where
-  pub later : moment old ≤ moment new
-  pub each : (since : ℕ) (image : Image) → since ≤ moment old → left_since new since image
-      → left_since old since image ⊎ P image
+-- what a disk tells at one moment
+pub record DiskState : Type 1 where
+  -- it tells its content, and keeps what it tells
+  pub honest : Bool
+  -- what reads give of each file
+  pub reads : Image
+  -- which contents a crash at this moment may leave of each file
+  pub may_leave : ℕ → List ℕ → Type 0
+  -- the moment: how many calls were made so far
+  pub moment : ℕ
+  -- what a crash at any moment from that one on may have left, within a call or between two
+  pub left_since : ℕ → Image → Type 0
+  -- how many calls of `len` and `read` failed, up to 2^64 - 1
+  pub read_faults : ℕ
+  -- how many calls of `write`, `sync` and `drop_file` failed, up to 2^64 - 1
+  pub write_faults : ℕ
+  -- how many bytes its reads have given
+  pub bytes_read : ℕ
 
--- A call that writes nothing: what reads give stays, and a crash leaves what it might have left
--- before.
-pub record Quiet {D : Type 0} (honest : D → Bool) (reads : D → Image)
-    (may_leave : D → ℕ → List ℕ → Type 0) (moment : D → ℕ) (left_since : D → ℕ → Image → Type 0)
-    (old new : D) : Type 0 where
-  pub stays : honest new ≡ honest old
-  pub content : IsTrue (honest old) → reads new ≡ reads old
-  pub crash : NoMore (may_leave old) (may_leave new)
-  pub any_moment : Leaves moment left_since old new (Each (may_leave old))
+-- At most so many calls passed. A crash since an old moment may have left what it might have left
+-- before them, or an image with P.
+pub record Elapses (calls : ℕ) (P : Image → Type 0) (old new : DiskState) : Type 0 where
+  pub later : old.moment ≤ new.moment
+  pub at_most : new.moment ≤ old.moment + calls
+  pub nothing_else : (since : ℕ) (image : Image) → since ≤ old.moment → new.left_since since image
+      → old.left_since since image ⊎ P image
+  pub keeps : (since : ℕ) (image : Image) → since ≤ old.moment → old.left_since since image
+      → new.left_since since image
+
+-- One call passed at most: a crash since then leaves what it may leave now.
+abbrev pub Passes : DiskState → DiskState → Type 0
+Passes old new = Elapses 1 (Each new.may_leave) old new
+
+-- What calls leave that write nothing: what reads give stays, and a crash leaves what it might have
+-- left before.
+pub record Quiet (old new : DiskState) : Type 0 where
+  pub honest : new.honest ≡ old.honest
+  pub content : IsTrue old.honest → new.reads ≡ old.reads
+  pub crash : NoMore old.may_leave new.may_leave
+  pub read_faults : old.read_faults ≤ new.read_faults
+  pub write_faults : old.write_faults ≤ new.write_faults
+
+-- What calls leave that only read: they write nothing, fail at no write, and give at most so many
+-- bytes.
+pub record OnlyReads (bytes : ℕ) (old new : DiskState) : Type 0 where
+  pub quiet : Quiet old new
+  pub no_more_faults : new.write_faults ≡ old.write_faults
+  pub bytes_read : IsTrue old.honest
+      → (old.bytes_read ≤ new.bytes_read) × (new.bytes_read ≤ old.bytes_read + bytes)
+
+-- What calls leave that change this file alone and read nothing: a crash leaves the file as it
+-- might have been left before, after the step.
+pub record OnlyChanges (file : ℕ) (step : List ℕ → List ℕ → Type 0)
+    (old new : DiskState) : Type 0 where
+  pub honest : new.honest ≡ old.honest
+  pub others : IsTrue old.honest → (other : ℕ) → other ≢ file → new.reads other ≡ old.reads other
+  pub bytes_read : IsTrue old.honest → new.bytes_read ≡ old.bytes_read
+  pub crash : Follows file step old.may_leave new.may_leave
+  pub read_faults : new.read_faults ≡ old.read_faults
+  pub write_faults : old.write_faults ≤ new.write_faults

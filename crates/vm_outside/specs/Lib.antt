@@ -1,10 +1,10 @@
 pub mod Clock
 pub mod Disk
-pub mod DiskCalls
 pub mod FailingCalls
 pub mod Files
 pub mod MemDisk
 pub mod MemDiskLaws
+pub mod MemDiskState
 pub mod MemSink
 pub mod MemSource
 pub mod NoDisk
@@ -12,3 +12,4 @@ pub mod Outside
 pub mod Splices
 pub mod Unsynced
 pub mod UnsyncedLaws
+pub mod inner

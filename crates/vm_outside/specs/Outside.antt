@@ -1,5 +1,5 @@
 -- What a call does to the bytes and to the counts of faults of an object of the outside.
-use Rattle.std.specs.Prelude.{◌≡◌, ℕ, ◌+◌, ◌-◌, ◌^◌, ◌≤◌, min, max, List, ◌++◌, Option, Some, None, ⊤}
+use Rattle.std.specs.Prelude.{◌≡◌, ℕ, ◌+◌, ◌-◌, ◌^◌, ◌≤◌, min, max, List, ◌++◌, Option, Some, None, Result, is_err, if◌then◌else◌, ⊤}
 use Rattle.std.specs.Option.{option_map}
 
 -- the greatest count, which can't rise further
@@ -17,6 +17,10 @@ RoseBy n before now = min (before + n) most ≤ now
 -- the count rose, or is where it can't rise further
 abbrev pub Rose : ℕ → ℕ → Type 0
 Rose before now = RoseBy 1 before now
+
+-- the count is one more where the call failed, and else what it was
+abbrev pub CountsEach : {A E : Type 0} → Result A E → ℕ → ℕ → Type 0
+CountsEach result before now = now ≡ (if is_err result then raised before else before)
 
 -- what was left is these bytes and what is left now, both told or both untold
 abbrev pub Gives : Option (List ℕ) → List ℕ → Option (List ℕ) → Type 0

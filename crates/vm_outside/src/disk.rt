@@ -1,6 +1,6 @@
 //! Files, and what a crash may leave of them.
-ghost use Rattle.std.specs.Prelude.{◌≡◌, ℕ, ◌+◌, ◌-◌, ◌^◌, ◌≤◌, ◌++◌, ◌⊎◌, Bool, List, length, take, drop, min, IfOk, OnOk, OnErr, IsTrue, MatchResult};
-ghost use Rattle.vm_outside.specs.Disk.{Image, Holds, Torn, Dropped, Emptied, Changes, Follows, NoMore, Elapses};
+ghost use Rattle.std.specs.Prelude.{◌≡◌, ℕ, ◌+◌, ◌-◌, ◌^◌, ◌≤◌, ◌++◌, ◌⊎◌, List, length, take, drop, min, IfOk, OnOk, OnErr, IsTrue, MatchResult};
+ghost use Rattle.vm_outside.specs.Disk.{Image, Holds, Torn, Dropped, Emptied, Changes, DiskState, Each, OnlyChanges, OnlyReads, Passes, Quiet};
 ghost use Rattle.vm_outside.specs.Outside.{Rose};
 
 use crate::Failed;
@@ -14,136 +14,107 @@ use crate::Failed;
 ///
 /// `docs/crash-model.md` says what this asks of a real disk, and what it doesn't.
 pub trait Disk {
-    /// Whether the disk tells its content, and keeps what it tells.
-    ghost honest: { Self → Bool };
-
-    /// What reads give of each file.
-    ghost reads: { Self → ℕ → List ℕ };
-
-    /// Which contents a crash at this moment may leave of each file.
-    ghost may_leave: { Self → ℕ → List ℕ → Type 0 };
-
-    /// The moment: how many calls were made so far.
-    ghost moment: { Self → ℕ };
-
-    /// What a crash at any moment from that one on may have left, within a call or between two.
-    ghost left_since: { Self → ℕ → Image → Type 0 };
-
-    /// How many calls of `len` and `read` failed, up to 2^64 - 1.
-    ghost read_faults: { Self → ℕ };
-
-    /// How many calls of `write`, `sync` and `drop_file` failed, up to 2^64 - 1.
-    ghost write_faults: { Self → ℕ };
-
-    /// How many bytes its reads have given.
-    ghost bytes_read: { Self → ℕ };
+    /// What the disk tells now: whether it is honest, what reads give, what a crash may leave, and
+    /// how many calls were made and failed.
+    ghost state: { Self → DiskState };
 
     /// The length of the file, in bytes.
     fn len(&mut self, file: u64) -> Result<u64, Failed>
         // What `Ok` holds.
-        ensures value { IsTrue (honest self.old) → IfOk result (λ n. n ≡ length (reads self.old file)) }
+        ensures value { IsTrue (state self.old).honest
+            → IfOk result (λ n. n ≡ length ((state self.old).reads file)) }
         // What stays.
-        ensures honest { honest self.new ≡ honest self.old }
-        ensures content { IsTrue (honest self.old) → reads self.new ≡ reads self.old }
-        ensures bytes_read { IsTrue (honest self.old) → bytes_read self.new ≡ bytes_read self.old }
-        ensures write_faults { write_faults self.new ≡ write_faults self.old }
+        ensures reads { OnlyReads 0 (state self.old) (state self.new) }
         // At each moment.
-        ensures crash { NoMore (may_leave self.old) (may_leave self.new) }
-        ensures time { Elapses (moment self.old) (moment self.new) (left_since self.old) (left_since self.new) (may_leave self.new) }
+        ensures time { Passes (state self.old) (state self.new) }
         // When the error comes.
-        ensures counted { read_faults self.old ≤ read_faults self.new }
-        ensures cause { OnErr result (Rose (read_faults self.old) (read_faults self.new)) };
+        ensures cause { OnErr result
+            (Rose (state self.old).read_faults (state self.new).read_faults) };
 
     /// Puts the bytes of the file from `at` on at the front of `into` and answers how many: as many
     /// as fit and stand there up to the file's end.
     fn read(&mut self, file: u64, at: u64, into: &mut [u8]) -> Result<usize, Failed>
         // What `Ok` holds.
         ensures within { IfOk result (λ n. n ≤ length into.old) }
-        ensures count { IsTrue (honest self.old) → IfOk result (λ n.
-            n ≡ min (length into.old) (length (reads self.old file) - at)) }
-        ensures bytes { IsTrue (honest self.old) → IfOk result (λ n.
-            into.new ≡ take n (drop at (reads self.old file)) ++ drop n into.old) }
-        ensures bytes_read { IsTrue (honest self.old) → MatchResult result
-            (λ n. bytes_read self.new ≡ bytes_read self.old + n)
-            (λ _. bytes_read self.new ≡ bytes_read self.old) }
+        ensures count { IsTrue (state self.old).honest → IfOk result (λ n.
+            n ≡ min (length into.old) (length ((state self.old).reads file) - at)) }
+        ensures bytes { IsTrue (state self.old).honest → IfOk result (λ n.
+            into.new ≡ take n (drop at ((state self.old).reads file)) ++ drop n into.old) }
+        ensures bytes_read { IsTrue (state self.old).honest → MatchResult result
+            (λ n. (state self.new).bytes_read ≡ (state self.old).bytes_read + n)
+            (λ _. (state self.new).bytes_read ≡ (state self.old).bytes_read) }
         // What stays.
-        ensures honest { honest self.new ≡ honest self.old }
-        ensures content { IsTrue (honest self.old) → reads self.new ≡ reads self.old }
-        ensures write_faults { write_faults self.new ≡ write_faults self.old }
+        ensures reads { OnlyReads (length into.old) (state self.old) (state self.new) }
         // At each moment.
-        ensures crash { NoMore (may_leave self.old) (may_leave self.new) }
-        ensures time { Elapses (moment self.old) (moment self.new) (left_since self.old) (left_since self.new) (may_leave self.new) }
+        ensures time { Passes (state self.old) (state self.new) }
         // When the error comes.
-        ensures counted { read_faults self.old ≤ read_faults self.new }
-        ensures cause { OnErr result (Rose (read_faults self.old) (read_faults self.new)) };
+        ensures cause { OnErr result
+            (Rose (state self.old).read_faults (state self.new).read_faults) };
 
     /// Puts all of `bytes` into the file from `at` on, over what stands there and past the end.
     /// Until a `sync` of the file a crash may leave any bytes in that range, also where this call
     /// fails.
     fn write(&mut self, file: u64, at: u64, bytes: &[u8]) -> Result<(), Failed>
         requires fits { at + length bytes.now ≤ 2 ^ 62 }
-        requires no_gap { IsTrue (honest self.old) → at ≤ length (reads self.old file) }
+        requires no_gap { IsTrue (state self.old).honest
+            → at ≤ length ((state self.old).reads file) }
         // What `Ok` holds, and what an error leaves.
-        ensures written { IsTrue (honest self.old) → OnOk result
-            (Changes file (Holds at bytes.now) (reads self.old) (reads self.new)) }
-        ensures torn { IsTrue (honest self.old) → OnErr result
-            (Changes file (Torn at (length bytes.now)) (reads self.old) (reads self.new)) }
+        ensures written { IsTrue (state self.old).honest → OnOk result
+            (Changes file (Holds at bytes.now) (state self.old).reads (state self.new).reads) }
+        ensures torn { IsTrue (state self.old).honest → OnErr result
+            (Changes file (Torn at (length bytes.now))
+            (state self.old).reads (state self.new).reads) }
         // What stays.
-        ensures honest { honest self.new ≡ honest self.old }
-        ensures bytes_read { IsTrue (honest self.old) → bytes_read self.new ≡ bytes_read self.old }
-        ensures read_faults { read_faults self.new ≡ read_faults self.old }
+        ensures changes { OnlyChanges file (Torn at (length bytes.now))
+            (state self.old) (state self.new) }
         // At each moment.
-        ensures crash { Follows file (Torn at (length bytes.now)) (may_leave self.old) (may_leave self.new) }
-        ensures time { Elapses (moment self.old) (moment self.new) (left_since self.old) (left_since self.new) (may_leave self.new) }
+        ensures time { Passes (state self.old) (state self.new) }
         // When the error comes.
-        ensures counted { write_faults self.old ≤ write_faults self.new }
-        ensures cause { OnErr result (Rose (write_faults self.old) (write_faults self.new)) };
+        ensures cause { OnErr result
+            (Rose (state self.old).write_faults (state self.new).write_faults) };
 
     /// Waits until a crash leaves the file as reads give it.
     fn sync(&mut self, file: u64) -> Result<(), Failed>
         // What `Ok` holds.
-        ensures durable { IsTrue (honest self.old) → OnOk result
-            ((left : List ℕ) → may_leave self.new file left → left ≡ reads self.old file) }
+        ensures durable { IsTrue (state self.old).honest → OnOk result ((left : List ℕ)
+            → (state self.new).may_leave file left → left ≡ (state self.old).reads file) }
         // What stays.
-        ensures honest { honest self.new ≡ honest self.old }
-        ensures content { IsTrue (honest self.old) → reads self.new ≡ reads self.old }
-        ensures bytes_read { IsTrue (honest self.old) → bytes_read self.new ≡ bytes_read self.old }
-        ensures read_faults { read_faults self.new ≡ read_faults self.old }
+        ensures quiet { Quiet (state self.old) (state self.new) }
+        ensures bytes_read { IsTrue (state self.old).honest
+            → (state self.new).bytes_read ≡ (state self.old).bytes_read }
+        ensures read_faults { (state self.new).read_faults ≡ (state self.old).read_faults }
         // At each moment.
-        ensures crash { NoMore (may_leave self.old) (may_leave self.new) }
-        ensures time { Elapses (moment self.old) (moment self.new) (left_since self.old) (left_since self.new) (may_leave self.new) }
+        ensures time { Passes (state self.old) (state self.new) }
         // When the error comes.
-        ensures counted { write_faults self.old ≤ write_faults self.new }
-        ensures cause { OnErr result (Rose (write_faults self.old) (write_faults self.new)) };
+        ensures cause { OnErr result
+            (Rose (state self.old).write_faults (state self.new).write_faults) };
 
     /// Makes the file empty at once. Until its next `sync` a crash may leave it with any bytes, no
     /// longer than it might have left it before.
     fn drop_file(&mut self, file: u64) -> Result<(), Failed>
         // What `Ok` holds, and what an error leaves.
-        ensures dropped { IsTrue (honest self.old) → OnOk result
-            (Changes file Emptied (reads self.old) (reads self.new)) }
-        ensures torn { IsTrue (honest self.old) → OnErr result
-            ((reads self.new ≡ reads self.old) ⊎ Changes file Emptied (reads self.old) (reads self.new)) }
+        ensures dropped { IsTrue (state self.old).honest → OnOk result
+            (Changes file Emptied (state self.old).reads (state self.new).reads) }
+        ensures torn { IsTrue (state self.old).honest → OnErr result
+            (((state self.new).reads ≡ (state self.old).reads)
+            ⊎ Changes file Emptied (state self.old).reads (state self.new).reads) }
         // What stays.
-        ensures honest { honest self.new ≡ honest self.old }
-        ensures bytes_read { IsTrue (honest self.old) → bytes_read self.new ≡ bytes_read self.old }
-        ensures read_faults { read_faults self.new ≡ read_faults self.old }
+        ensures changes { OnlyChanges file Dropped (state self.old) (state self.new) }
         // At each moment.
-        ensures crash { Follows file Dropped (may_leave self.old) (may_leave self.new) }
-        ensures time { Elapses (moment self.old) (moment self.new) (left_since self.old) (left_since self.new) (may_leave self.new) }
+        ensures time { Passes (state self.old) (state self.new) }
         // When the error comes.
-        ensures counted { write_faults self.old ≤ write_faults self.new }
-        ensures cause { OnErr result (Rose (write_faults self.old) (write_faults self.new)) };
+        ensures cause { OnErr result
+            (Rose (state self.old).write_faults (state self.new).write_faults) };
 
     /// What reads give of a file is what a crash may leave of it.
-    ghost reads_as_left: { (disk : Self) → IsTrue (honest disk) → (file : ℕ)
-        → may_leave disk file (reads disk file) };
+    ghost reads_as_left: { (disk : Self) → IsTrue (state disk).honest → (file : ℕ)
+        → (state disk).may_leave file ((state disk).reads file) };
 
     /// A crash at this moment is one since any earlier moment.
-    ghost counts_now: { (disk : Self) (since : ℕ) (image : Image) → since ≤ moment disk
-        → ((file : ℕ) → may_leave disk file (image file)) → left_since disk since image };
+    ghost counts_now: { (disk : Self) (since : ℕ) (image : Image) → since ≤ (state disk).moment
+        → Each (state disk).may_leave image → (state disk).left_since since image };
 
     /// Since this moment there is no other.
-    ghost only_now: { (disk : Self) (image : Image) → left_since disk (moment disk) image
-        → (file : ℕ) → may_leave disk file (image file) };
+    ghost only_now: { (disk : Self) (image : Image)
+        → (state disk).left_since (state disk).moment image → Each (state disk).may_leave image };
 }

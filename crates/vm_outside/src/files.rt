@@ -1,6 +1,6 @@
 //! What layers above do with a file in one go.
-ghost use Rattle.std.specs.Prelude.{◌≡◌, ◌≢◌, ℕ, ◌+◌, ◌^◌, ◌≤◌, List, length, IfOk, OnOk, OnErr, IsErrOf, IsTrue, ◌⊎◌};
-ghost use Rattle.vm_outside.specs.Disk.{Image, Holds, Torn, Changes, Follows, Leaves, Quiet};
+ghost use Rattle.std.specs.Prelude.{◌≡◌, ℕ, ◌+◌, ◌^◌, ◌≤◌, List, length, IfOk, OnOk, OnErr, IsErrOf, IsTrue, ◌⊎◌};
+ghost use Rattle.vm_outside.specs.Disk.{Holds, Torn, Changes, Each, Elapses, MayFollow, OnlyChanges, Quiet};
 ghost use Rattle.vm_outside.specs.Outside.{Rose};
 ghost use Rattle.vm_outside.specs.declared.files.ReadFault.TheVariants.{Memory as NoRoom, Failed as NotRead};
 
@@ -36,26 +36,24 @@ impl From<AllocError> for ReadFault {
 /// them. After an error a crash may leave any bytes in that range.
 pub fn write_and_sync<D: Disk>(disk: &mut D, file: u64, at: u64, bytes: &[u8]) -> Result<(), Failed>
     requires fits { at + length bytes.now ≤ 2 ^ 62 }
-    requires no_gap { IsTrue (D.honest disk.old) → at ≤ length (D.reads disk.old file) }
+    requires no_gap { IsTrue (D.state disk.old).honest
+        → at ≤ length ((D.state disk.old).reads file) }
     // What `Ok` holds.
-    ensures written { IsTrue (D.honest disk.old) → OnOk result
-        (Changes file (Holds at bytes.now) (D.reads disk.old) (D.reads disk.new)) }
-    ensures durable { IsTrue (D.honest disk.old) → OnOk result
-        ((left : List ℕ) → D.may_leave disk.new file left → Holds at bytes.now (D.reads disk.old file) left) }
+    ensures written { IsTrue (D.state disk.old).honest → OnOk result
+        (Changes file (Holds at bytes.now) (D.state disk.old).reads (D.state disk.new).reads) }
+    ensures durable { IsTrue (D.state disk.old).honest → OnOk result ((left : List ℕ)
+        → (D.state disk.new).may_leave file left
+        → Holds at bytes.now ((D.state disk.old).reads file) left) }
     // What stays.
-    ensures honest { D.honest disk.new ≡ D.honest disk.old }
-    ensures others { IsTrue (D.honest disk.old) → (other : ℕ) → other ≢ file
-        → D.reads disk.new other ≡ D.reads disk.old other }
-    ensures bytes_read { IsTrue (D.honest disk.old) → D.bytes_read disk.new ≡ D.bytes_read disk.old }
-    ensures read_faults { D.read_faults disk.new ≡ D.read_faults disk.old }
+    ensures changes { OnlyChanges file (Torn at (length bytes.now))
+        (D.state disk.old) (D.state disk.new) }
     // At each moment.
-    ensures crash { Follows file (Torn at (length bytes.now)) (D.may_leave disk.old) (D.may_leave disk.new) }
-    ensures any_moment { Leaves D.moment D.left_since disk.old disk.new
-        (λ image. Follows file (Torn at (length bytes.now)) (D.may_leave disk.old) (λ f left. left ≡ image f)) }
-    ensures two_calls { D.moment disk.new ≤ D.moment disk.old + 2 }
+    ensures time { Elapses 2
+        (MayFollow file (Torn at (length bytes.now)) (D.state disk.old).may_leave)
+        (D.state disk.old) (D.state disk.new) }
     // When the error comes.
-    ensures counted { D.write_faults disk.old ≤ D.write_faults disk.new }
-    ensures cause { OnErr result (Rose (D.write_faults disk.old) (D.write_faults disk.new)) }
+    ensures cause { OnErr result
+        (Rose (D.state disk.old).write_faults (D.state disk.new).write_faults) }
 {
     disk.write(file, at, bytes)?;
     disk.sync(file)
@@ -64,17 +62,19 @@ pub fn write_and_sync<D: Disk>(disk: &mut D, file: u64, at: u64, bytes: &[u8]) -
 /// Syncs a file, so that a crash leaves what is read, and reads it whole.
 pub fn read_all<D: Disk>(alloc: Global, disk: &mut D, file: u64) -> Result<Vec<u8>, ReadFault>
     // What `Ok` holds.
-    ensures bytes { IsTrue (D.honest disk.old) → IfOk result (λ bytes. bytes.items ≡ D.reads disk.old file) }
-    ensures synced { IsTrue (D.honest disk.old) → OnOk result
-        ((left : List ℕ) → D.may_leave disk.new file left → left ≡ D.reads disk.old file) }
-    // What stays, and what is left at each moment.
-    ensures quiet { Quiet D.honest D.reads D.may_leave D.moment D.left_since disk.old disk.new }
+    ensures bytes { IsTrue (D.state disk.old).honest
+        → IfOk result (λ bytes. bytes.items ≡ (D.state disk.old).reads file) }
+    ensures synced { IsTrue (D.state disk.old).honest → OnOk result ((left : List ℕ)
+        → (D.state disk.new).may_leave file left → left ≡ (D.state disk.old).reads file) }
+    // What stays.
+    ensures quiet { Quiet (D.state disk.old) (D.state disk.new) }
+    // At each moment.
+    ensures time { Elapses 3 (Each (D.state disk.old).may_leave)
+        (D.state disk.old) (D.state disk.new) }
     // When the error comes.
-    ensures counted { (D.read_faults disk.old ≤ D.read_faults disk.new)
-        × (D.write_faults disk.old ≤ D.write_faults disk.new) }
     ensures cause { IsErrOf result ReadFault.Failed
-        → Rose (D.read_faults disk.old) (D.read_faults disk.new)
-        ⊎ Rose (D.write_faults disk.old) (D.write_faults disk.new) }
+        → Rose (D.state disk.old).read_faults (D.state disk.new).read_faults
+        ⊎ Rose (D.state disk.old).write_faults (D.state disk.new).write_faults }
 {
     disk.sync(file)?;
     let len = disk.len(file)?;

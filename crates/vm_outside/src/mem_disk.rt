@@ -1,10 +1,9 @@
 //! A disk in memory, which tells what it holds and what a crash may leave.
-ghost use Rattle.std.specs.Prelude.{◌≡◌, ◌≤◌, ◌+◌, ℕ, List, [], ◌∷◌, ◌++◌, true, false, Bool, length, reverse, ◌^◌, ◌⊎◌, nat_eq, if◌then◌else◌, IsOk, IsErr, IfOk, OnOk, OnErr, MatchResult, min, ◌-◌, take, drop};
+ghost use Rattle.std.specs.Prelude.{◌≡◌, ◌≤◌, ◌+◌, ℕ, List, [], ◌∷◌, ◌++◌, true, false, length, reverse, ◌^◌, ◌⊎◌, nat_eq, if◌then◌else◌, IfOk, OnOk, OnErr, MatchResult, min, ◌-◌, take, drop};
 ghost use Rattle.vm_outside.specs.Files.{content};
 ghost use Rattle.vm_outside.specs.Outside.{raised};
 ghost use Rattle.std.specs.List.{list_all};
-ghost use Rattle.vm_outside.specs.MemDisk.{given, remains, remains_since, replayed, unsynced, written, fits};
-ghost use Rattle.vm_outside.specs.declared.disk_call.DiskCall.{DiskCall as Call};
+ghost use Rattle.vm_outside.specs.MemDisk.{replayed, unsynced, written, fits};
 ghost use Rattle.vm_outside.specs.declared.disk_call.DiskCall.TheVariants.{Len, Read, Write, Sync, DropFile};
 ghost use Rattle.vm_outside.specs.MemDiskLaws.{reads_as_left, counted_now, only_last_now};
 
@@ -35,15 +34,15 @@ pub struct MemDisk {
 }
 
 impl MemDisk {
-    ghost use Rattle.vm_outside.specs.DiskCalls.{calls_of, first_of};
+    ghost use Rattle.vm_outside.specs.MemDiskState.{calls_of, first_of};
 
     /// An empty disk that wasn't called yet, whose calls with these numbers, counted from 0, fail.
     pub fn new(alloc: Global, failing: Vec<u64>) -> MemDisk
-        ensures reads { (file : ℕ) → ⟦<MemDisk as Disk>⟧.reads result file ≡ [] }
-        ensures left { (file : ℕ) (left : List ℕ) → ⟦<MemDisk as Disk>⟧.may_leave result file left → left ≡ [] }
-        ensures moment { ⟦<MemDisk as Disk>⟧.moment result ≡ 0 }
-        ensures faults { (⟦<MemDisk as Disk>⟧.read_faults result ≡ 0) × (⟦<MemDisk as Disk>⟧.write_faults result ≡ 0) }
-        ensures honest { ⟦<MemDisk as Disk>⟧.honest result ≡ true }
+        ensures reads { (file : ℕ) → (⟦<MemDisk as Disk>⟧.state result).reads file ≡ [] }
+        ensures left { (file : ℕ) (left : List ℕ) → (⟦<MemDisk as Disk>⟧.state result).may_leave file left → left ≡ [] }
+        ensures moment { (⟦<MemDisk as Disk>⟧.state result).moment ≡ 0 }
+        ensures faults { ((⟦<MemDisk as Disk>⟧.state result).read_faults ≡ 0) × ((⟦<MemDisk as Disk>⟧.state result).write_faults ≡ 0) }
+        ensures honest { (⟦<MemDisk as Disk>⟧.state result).honest ≡ true }
     {
         MemDisk {
             alloc,
@@ -58,23 +57,23 @@ impl MemDisk {
 
     /// An empty disk that fails only where memory runs out.
     pub fn steady(alloc: Global) -> MemDisk
-        ensures reads { (file : ℕ) → ⟦<MemDisk as Disk>⟧.reads result file ≡ [] }
-        ensures left { (file : ℕ) (left : List ℕ) → ⟦<MemDisk as Disk>⟧.may_leave result file left → left ≡ [] }
-        ensures moment { ⟦<MemDisk as Disk>⟧.moment result ≡ 0 }
-        ensures faults { (⟦<MemDisk as Disk>⟧.read_faults result ≡ 0) × (⟦<MemDisk as Disk>⟧.write_faults result ≡ 0) }
-        ensures honest { ⟦<MemDisk as Disk>⟧.honest result ≡ true }
+        ensures reads { (file : ℕ) → (⟦<MemDisk as Disk>⟧.state result).reads file ≡ [] }
+        ensures left { (file : ℕ) (left : List ℕ) → (⟦<MemDisk as Disk>⟧.state result).may_leave file left → left ≡ [] }
+        ensures moment { (⟦<MemDisk as Disk>⟧.state result).moment ≡ 0 }
+        ensures faults { ((⟦<MemDisk as Disk>⟧.state result).read_faults ≡ 0) × ((⟦<MemDisk as Disk>⟧.state result).write_faults ≡ 0) }
+        ensures honest { (⟦<MemDisk as Disk>⟧.state result).honest ≡ true }
     {
         MemDisk::new(alloc, Vec::new(alloc))
     }
 
     /// The same disk, not called yet, with these bytes in a file from the first.
     pub fn holding(self, file: u64, bytes: &[u8]) -> Result<MemDisk, AllocError>
-        requires first { ⟦<MemDisk as Disk>⟧.moment self ≡ 0 }
-        ensures reads { IfOk result (λ disk. (f : ℕ) → ⟦<MemDisk as Disk>⟧.reads disk f
-            ≡ (if nat_eq file f then bytes.now else ⟦<MemDisk as Disk>⟧.reads self f)) }
-        ensures left { IfOk result (λ disk. (f : ℕ) (left : List ℕ) → ⟦<MemDisk as Disk>⟧.may_leave disk f left
-            → left ≡ ⟦<MemDisk as Disk>⟧.reads disk f) }
-        ensures moment { IfOk result (λ disk. ⟦<MemDisk as Disk>⟧.moment disk ≡ 0) }
+        requires first { (⟦<MemDisk as Disk>⟧.state self).moment ≡ 0 }
+        ensures reads { IfOk result (λ disk. (f : ℕ) → (⟦<MemDisk as Disk>⟧.state disk).reads f
+            ≡ (if nat_eq file f then bytes.now else (⟦<MemDisk as Disk>⟧.state self).reads f)) }
+        ensures left { IfOk result (λ disk. (f : ℕ) (left : List ℕ) → (⟦<MemDisk as Disk>⟧.state disk).may_leave f left
+            → left ≡ (⟦<MemDisk as Disk>⟧.state disk).reads f) }
+        ensures moment { IfOk result (λ disk. (⟦<MemDisk as Disk>⟧.state disk).moment ≡ 0) }
     {
         let MemDisk {
             alloc,
@@ -102,7 +101,7 @@ impl MemDisk {
 
     /// What a crash after the first so many calls may leave of a file, or within the last of these.
     pub fn unsynced(&self, calls: usize, file: u64) -> Result<Unsynced, AllocError>
-        requires { calls ≤ ⟦<MemDisk as Disk>⟧.moment self.now }
+        requires { calls ≤ (⟦<MemDisk as Disk>⟧.state self.now).moment }
         ensures { IfOk result (λ left. left ≡ unsynced (first_of self.now) (reverse (take calls (calls_of self.now))) file) }
     {
         let mut held = Vec::from_slice(self.alloc, self.first.bytes(file))?;
@@ -115,21 +114,23 @@ impl MemDisk {
 
     /// The calls so far, the first one first.
     pub fn calls(&self) -> &[DiskCall]
-        ensures { length result.now ≡ ⟦<MemDisk as Disk>⟧.moment self.now }
+        ensures calls { result.now ≡ calls_of self.now }
+        ensures moment { length result.now ≡ (⟦<MemDisk as Disk>⟧.state self.now).moment }
     {
         &self.calls
     }
 
     /// The bytes of a file, as a read gives them.
     pub fn bytes(&self, file: u64) -> &[u8]
-        ensures { result.now ≡ ⟦<MemDisk as Disk>⟧.reads self.now file }
+        ensures { result.now ≡ (⟦<MemDisk as Disk>⟧.state self.now).reads file }
     {
         self.files.bytes(file)
     }
 }
 
 impl MemDisk {
-    ghost use Rattle.vm_outside.specs.DiskCalls.{IsStill, Notes, MayNote, Keeps, calls_of, first_of, files_of};
+    ghost use Rattle.vm_outside.specs.MemDiskState.{Notes, MayNote, calls_of, first_of, files_of};
+    ghost use Rattle.vm_outside.specs.inner.DiskCalls.{IsStill, Keeps};
 
     /// Writes a call down that changes no file. Without memory it doesn't.
     fn note(&mut self, call: DiskCall) -> Result<(), AllocError>
@@ -282,25 +283,12 @@ fn give(bytes: &[u8], at: u64, into: &mut [u8]) -> usize
 }
 
 impl Disk for MemDisk {
-    ghost use Rattle.std.specs.Prelude.{is_ok, is_err};
-    ghost use Rattle.vm_outside.specs.DiskCalls.{IsMade, Passes, files_of, given_by, given_of, left_of};
-    ghost use Rattle.vm_outside.specs.Disk.{Changes, Dropped, Emptied, Follows, Holds, NoMore, Torn};
+    ghost use Rattle.std.specs.Prelude.{is_ok};
+    ghost use Rattle.vm_outside.specs.MemDiskState.{IsMade, files_of, given_by, state_of};
+    ghost use Rattle.vm_outside.specs.Outside.{CountsEach};
+    ghost use Rattle.vm_outside.specs.Disk.{Changes, Dropped, Emptied, Holds, OnlyChanges, OnlyReads, Passes, Quiet, Torn};
 
-    ghost honest = { λ disk. true };
-
-    ghost reads = { λ disk file. content disk.files file };
-
-    ghost may_leave = { λ disk file left. remains (content disk.first) (reverse disk.calls.items) file left };
-
-    ghost moment = { λ disk. length disk.calls.items };
-
-    ghost left_since = { λ disk since image. remains_since (content disk.first) since (reverse disk.calls.items) image };
-
-    ghost read_faults = { λ disk. disk.read_faults };
-
-    ghost write_faults = { λ disk. disk.write_faults };
-
-    ghost bytes_read = { λ disk. given (reverse disk.calls.items) };
+    ghost state = { state_of };
 
     ghost reads_as_left = { λ disk honest file. reads_as_left (content disk.first) disk.calls.items file (content disk.files file) (disk.replays file) };
 
@@ -310,14 +298,10 @@ impl Disk for MemDisk {
 
     fn len(&mut self, file: u64) -> Result<u64, Failed>
         ensures value { IfOk result (λ n. n ≡ length (files_of self.old file)) }
-        ensures kept { files_of self.new ≡ files_of self.old }
-        ensures bytes_read { given_of self.new ≡ given_of self.old }
-        ensures crash { NoMore (left_of self.old) (left_of self.new) }
-        ensures time { Passes self.old self.new }
+        ensures reads { OnlyReads 0 (state_of self.old) (state_of self.new) }
+        ensures time { Passes (state_of self.old) (state_of self.new) }
         ensures made { IsMade (Len file) (Len file) (is_ok result) self.old self.new }
-        ensures counted { self.new.read_faults
-            ≡ (if is_err result then raised self.old.read_faults else self.old.read_faults) }
-        ensures write_faults { self.new.write_faults ≡ self.old.write_faults }
+        ensures counted { CountsEach result self.old.read_faults self.new.read_faults }
     {
         if self.failing.begin() {
             return Err(self.fail_read(DiskCall::Len { file }));
@@ -331,15 +315,13 @@ impl Disk for MemDisk {
     fn read(&mut self, file: u64, at: u64, into: &mut [u8]) -> Result<usize, Failed>
         ensures count { IfOk result (λ n. n ≡ min (length into.old) (length (files_of self.old file) - at)) }
         ensures bytes { IfOk result (λ n. into.new ≡ take n (drop at (files_of self.old file)) ++ drop n into.old) }
-        ensures kept { files_of self.new ≡ files_of self.old }
-        ensures bytes_read { MatchResult result (λ n. given_of self.new ≡ given_of self.old + n)
-            (λ _. given_of self.new ≡ given_of self.old) }
-        ensures crash { NoMore (left_of self.old) (left_of self.new) }
-        ensures time { Passes self.old self.new }
+        ensures reads { OnlyReads (length into.old) (state_of self.old) (state_of self.new) }
+        ensures bytes_read { MatchResult result
+            (λ n. (state_of self.new).bytes_read ≡ (state_of self.old).bytes_read + n)
+            (λ _. (state_of self.new).bytes_read ≡ (state_of self.old).bytes_read) }
+        ensures time { Passes (state_of self.old) (state_of self.new) }
         ensures made { IsMade (Read file at (given_by result)) (Read file at 0) (is_ok result) self.old self.new }
-        ensures counted { self.new.read_faults
-            ≡ (if is_err result then raised self.old.read_faults else self.old.read_faults) }
-        ensures write_faults { self.new.write_faults ≡ self.old.write_faults }
+        ensures counted { CountsEach result self.old.read_faults self.new.read_faults }
     {
         if self.failing.begin() {
             return Err(self.fail_read(DiskCall::Read { file, at, given: 0 }));
@@ -361,13 +343,10 @@ impl Disk for MemDisk {
         ensures written { OnOk result (Changes file (Holds at bytes.now) (files_of self.old) (files_of self.new)) }
         ensures torn { OnErr result (Changes file (Torn at (length bytes.now)) (files_of self.old) (files_of self.new)) }
         ensures kept { OnErr result ((f : ℕ) → files_of self.new f ≡ files_of self.old f) }
-        ensures bytes_read { given_of self.new ≡ given_of self.old }
-        ensures crash { Follows file (Torn at (length bytes.now)) (left_of self.old) (left_of self.new) }
-        ensures time { Passes self.old self.new }
+        ensures changes { OnlyChanges file (Torn at (length bytes.now)) (state_of self.old) (state_of self.new) }
+        ensures time { Passes (state_of self.old) (state_of self.new) }
         ensures made { IsMade (Write file at bytes.now true) (Write file at bytes.now false) (is_ok result) self.old self.new }
-        ensures counted { self.new.write_faults
-            ≡ (if is_err result then raised self.old.write_faults else self.old.write_faults) }
-        ensures read_faults { self.new.read_faults ≡ self.old.read_faults }
+        ensures counted { CountsEach result self.old.write_faults self.new.write_faults }
     {
         if self.failing.begin() {
             return Err(self.fail_whole_write(file, at, bytes));
@@ -386,15 +365,13 @@ impl Disk for MemDisk {
     }
 
     fn sync(&mut self, file: u64) -> Result<(), Failed>
-        ensures kept { files_of self.new ≡ files_of self.old }
-        ensures durable { OnOk result ((left : List ℕ) → left_of self.new file left → left ≡ files_of self.old file) }
-        ensures bytes_read { given_of self.new ≡ given_of self.old }
-        ensures crash { NoMore (left_of self.old) (left_of self.new) }
-        ensures time { Passes self.old self.new }
-        ensures made { IsMade (Sync file true) (Sync file false) (is_ok result) self.old self.new }
-        ensures counted { self.new.write_faults
-            ≡ (if is_err result then raised self.old.write_faults else self.old.write_faults) }
+        ensures quiet { Quiet (state_of self.old) (state_of self.new) }
+        ensures bytes_read { (state_of self.new).bytes_read ≡ (state_of self.old).bytes_read }
         ensures read_faults { self.new.read_faults ≡ self.old.read_faults }
+        ensures durable { OnOk result ((left : List ℕ) → (state_of self.new).may_leave file left → left ≡ files_of self.old file) }
+        ensures time { Passes (state_of self.old) (state_of self.new) }
+        ensures made { IsMade (Sync file true) (Sync file false) (is_ok result) self.old self.new }
+        ensures counted { CountsEach result self.old.write_faults self.new.write_faults }
     {
         if self.failing.begin() {
             return Err(self.fail_write(DiskCall::Sync { file, done: false }));
@@ -409,13 +386,10 @@ impl Disk for MemDisk {
         ensures dropped { OnOk result (Changes file Emptied (files_of self.old) (files_of self.new)) }
         ensures torn { OnErr result ((files_of self.new ≡ files_of self.old) ⊎ Changes file Emptied (files_of self.old) (files_of self.new)) }
         ensures kept { OnErr result (files_of self.new ≡ files_of self.old) }
-        ensures bytes_read { given_of self.new ≡ given_of self.old }
-        ensures crash { Follows file Dropped (left_of self.old) (left_of self.new) }
-        ensures time { Passes self.old self.new }
+        ensures changes { OnlyChanges file Dropped (state_of self.old) (state_of self.new) }
+        ensures time { Passes (state_of self.old) (state_of self.new) }
         ensures made { IsMade (DropFile file true) (DropFile file false) (is_ok result) self.old self.new }
-        ensures counted { self.new.write_faults
-            ≡ (if is_err result then raised self.old.write_faults else self.old.write_faults) }
-        ensures read_faults { self.new.read_faults ≡ self.old.read_faults }
+        ensures counted { CountsEach result self.old.write_faults self.new.write_faults }
     {
         if self.failing.begin() {
             return Err(self.fail_write(DiskCall::DropFile { file, done: false }));

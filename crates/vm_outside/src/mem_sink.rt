@@ -64,10 +64,9 @@ impl MemSink {
 
 impl Sink for MemSink {
     ghost use Rattle.std.specs.Prelude.{◌≤◌, ◌++◌, length, take, IfOk, OnErr, IsErr};
-    ghost use Rattle.std.specs.Prelude.{is_err, if◌then◌else◌};
     ghost use Rattle.vm_outside.specs.FailingCalls.{FailsNext, GoesOn};
     ghost use Rattle.vm_outside.specs.MemSink.{calls_of, faults_of, taken_of};
-    ghost use Rattle.vm_outside.specs.Outside.{raised};
+    ghost use Rattle.vm_outside.specs.Outside.{CountsEach};
 
     ghost taken = { λ sink. Some (taken_of sink) };
 
@@ -80,8 +79,7 @@ impl Sink for MemSink {
             taken_of self.new ≡ taken_of self.old ++ take n bytes.now) }
         ensures some { IfOk result (λ n. 0 < length bytes.now → 0 < n) }
         ensures kept { OnErr result (taken_of self.new ≡ taken_of self.old) }
-        ensures counted { faults_of self.new
-            ≡ (if is_err result then raised (faults_of self.old) else faults_of self.old) }
+        ensures counted { CountsEach result (faults_of self.old) (faults_of self.new) }
 
         // It fails at the calls that were chosen, and at others only where memory can't grow.
         ensures chosen { FailsNext (calls_of self.old) → IsErr result }

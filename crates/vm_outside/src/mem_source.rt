@@ -60,10 +60,9 @@ impl MemSource {
 
 impl Source for MemSource {
     ghost use Rattle.std.specs.Prelude.{◌↔◌, ◌++◌, length, take, IfOk, OnErr, IsErr};
-    ghost use Rattle.std.specs.Prelude.{is_err, if◌then◌else◌};
     ghost use Rattle.vm_outside.specs.FailingCalls.{FailsNext, GoesOn};
     ghost use Rattle.vm_outside.specs.MemSource.{calls_of, faults_of, left_of};
-    ghost use Rattle.vm_outside.specs.Outside.{raised};
+    ghost use Rattle.vm_outside.specs.Outside.{CountsEach};
 
     ghost left = { λ source. Some (left_of source) };
 
@@ -77,8 +76,7 @@ impl Source for MemSource {
         ensures moved { IfOk result (λ n. left_of self.old ≡ take n into.new ++ left_of self.new) }
         ensures end { IfOk result (λ n. (n ≡ 0) ↔ (left_of self.old ≡ [])) }
         ensures kept { OnErr result (left_of self.new ≡ left_of self.old) }
-        ensures counted { faults_of self.new
-            ≡ (if is_err result then raised (faults_of self.old) else faults_of self.old) }
+        ensures counted { CountsEach result (faults_of self.old) (faults_of self.new) }
 
         // It fails at the calls that were chosen, and at no other.
         ensures chosen { IsErr result ↔ FailsNext (calls_of self.old) }

@@ -1,7 +1,7 @@
 //! A disk that isn't there.
-ghost use Rattle.std.specs.Prelude.{◌≡◌, IsErr, IsTrue, false, []};
+ghost use Rattle.std.specs.Prelude.{◌≡◌, IsErr};
 ghost use Rattle.vm_outside.specs.Outside.{raised};
-ghost use Rattle.vm_outside.specs.NoDisk.{never};
+ghost use Rattle.vm_outside.specs.NoDisk.{never, state_of};
 
 use crate::{Disk, Failed};
 
@@ -18,8 +18,8 @@ pub struct NoDisk {
 impl NoDisk {
     /// A disk that wasn't called yet.
     pub fn new() -> NoDisk
-        ensures read_faults { ⟦<NoDisk as Disk>⟧.read_faults result ≡ 0 }
-        ensures write_faults { ⟦<NoDisk as Disk>⟧.write_faults result ≡ 0 }
+        ensures read_faults { (⟦<NoDisk as Disk>⟧.state result).read_faults ≡ 0 }
+        ensures write_faults { (⟦<NoDisk as Disk>⟧.state result).write_faults ≡ 0 }
     {
         NoDisk {
             read_faults: 0,
@@ -29,27 +29,13 @@ impl NoDisk {
 }
 
 impl Disk for NoDisk {
-    ghost honest = { λ disk. false };
-
-    ghost reads = { λ disk file. [] };
-
-    ghost may_leave = { λ disk file left. ⊥ };
-
-    ghost moment = { λ disk. 0 };
-
-    ghost left_since = { λ disk since image. ⊥ };
-
-    ghost bytes_read = { λ disk. 0 };
+    ghost state = { state_of };
 
     ghost reads_as_left = { λ disk honest file. never honest };
 
     ghost counts_now = { λ disk since image within each. each 0 };
 
     ghost only_now = { λ disk image left file. left };
-
-    ghost read_faults = { λ disk. disk.read_faults };
-
-    ghost write_faults = { λ disk. disk.write_faults };
 
     fn len(&mut self, _file: u64) -> Result<u64, Failed>
         ensures fails { IsErr result }

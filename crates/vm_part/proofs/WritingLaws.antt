@@ -1,33 +1,9 @@
--- Writing a part piece by piece: what stands in its file, and what a crash may leave of it.
-use Rattle.std.proofs.Common.{◌≡◌, ◌⊎◌, ℕ, ◌+◌, ◌-◌, ◌≤◌, min, List, [], ◌++◌, length, take, drop, inl, inr, sym, ap, ◌∙◌, subst, arith}
+-- Writing a part piece by piece: what stands in its file.
+use Rattle.std.proofs.Common.{◌≡◌, ℕ, ◌+◌, ◌-◌, ◌≤◌, min, List, [], ◌++◌, length, take, drop, sym, ap, ◌∙◌, subst, arith}
 use Rattle.std.proofs.Math.Seq.{take-add}
 use Rattle.std.proofs.lemmas.List.{append-nil, drop_all, length-drop, length-take-le, take-take}
-use Rattle.vm_outside.specs.Disk.{Each, Elapses, Follows, Holds, Image, Leaves}
+use Rattle.vm_outside.specs.Disk.{Holds, Image}
 use Rattle.vm_part.specs.Files.{Begun, HasWritten, next_len}
-
--- a call after which a crash may leave what follows from what it might have left before
-pub leaves_step : {D : Type 0} (moment : D → ℕ) (left_since : D → ℕ → Image → Type 0) (may_leave : D → ℕ → List ℕ → Type 0) (old new : D)
-    (file : ℕ) (step : List ℕ → List ℕ → Type 0) → Follows file step (may_leave old) (may_leave new)
-    → Elapses (moment old) (moment new) (left_since old) (left_since new) (may_leave new)
-    → Leaves moment left_since old new (λ image. Follows file step (may_leave old) (λ f left. left ≡ image f))
-leaves_step moment left_since may_leave old new file step crash time = record { later = time.later; each = each }
-  where
-    of_image : (image : Image) → Each (may_leave new) image → Follows file step (may_leave old) (λ f left. left ≡ image f)
-    of_image image each = record {
-      own = λ left is. crash.own left (subst (may_leave new file) (sym is) (each file));
-      others = λ other apart left is. crash.others other apart left (subst (may_leave new other) (sym is) (each other));
-    }
-
-    choose : (since : ℕ) (image : Image) → left_since old since image ⊎ Each (may_leave new) image
-        → left_since old since image ⊎ Follows file step (may_leave old) (λ f left. left ≡ image f)
-    choose since image (inl before) = inl before
-    choose since image (inr now) = inr (of_image image now)
-
-    each : (since : ℕ) (image : Image) → since ≤ moment old → left_since new since image
-        → left_since old since image ⊎ Follows file step (may_leave old) (λ f left. left ≡ image f)
-    each since image early left = choose since image (time.nothing_else since image early left)
-
--- ---- what a write leaves
 
 -- a piece fits in, and the next one with it
 next_fits : (at n m len : ℕ) → n ≡ min m (len - at) → at ≤ len → (at + n ≤ len) × (n ≤ len - at)

@@ -46,6 +46,11 @@ IsDurable begun may_leave Synced = (left : List ℕ) → may_leave begun.file le
 
 -- ---- opening
 
+-- The part stands in the file of this number, and has so many bytes.
+pub record IsOpened (number size : ℕ) (opened : InFile) : Type 0 where
+  pub file : opened.file ≡ number
+  pub len : length opened.part.bytes ≡ size
+
 -- why a file gives no part of so many bytes: it says which file, and where the bytes break
 abbrev pub IsFileFault : ℕ → ℕ → List ℕ → PartFault → Type 0
 IsFileFault file len bytes (Damaged damaged at) = (damaged ≡ file) × Breaks len bytes at

@@ -1,12 +1,11 @@
 //! A part that is read from a file.
 
-ghost use Rattle.std.specs.Prelude.{◌≡◌, ◌+◌, ◌≤◌, List, length, take, IfErr, IfOk, IsErrOf, IsTrue, ⊤};
-ghost use Rattle.vm_outside.specs.Disk.{Quiet};
+ghost use Rattle.std.specs.Prelude.{◌≡◌, ◌≤◌, List, length, take, IfErr, IfOk, IsErrOf, IsTrue};
+ghost use Rattle.vm_outside.specs.Disk.{Each, Elapses, OnlyReads};
 ghost use Rattle.vm_outside.specs.Outside.{Rose};
 ghost use Rattle.vm_outside.specs.declared.files.ReadFault.TheVariants.{Failed as NotRead};
-ghost use Rattle.vm_part.specs.Files.{IsDamage, IsFileFault, IsNoDamage};
+ghost use Rattle.vm_part.specs.Files.{IsDamage, IsFileFault, IsNoDamage, IsOpened};
 ghost use Rattle.vm_part.specs.Part.{IsPart, Stored};
-ghost use Rattle.vm_part.specs.declared.fault.PartFault.TheVariants.{DiskFault as NoDisk};
 
 use crate::{MemPart, PartFault, PartReader, ReadFault};
 use std::alloc::Global;
@@ -24,20 +23,24 @@ pub fn open_part<D: Disk>(
     len: u64,
 ) -> Result<PartReader, PartFault>
     // What `Ok` holds.
-    ensures file { IfOk result (λ reader. reader.file ≡ file) }
-    ensures len { IfOk result (λ reader. length reader.part.bytes ≡ len) }
-    ensures part { IsTrue (D.honest disk.old) → IfOk result (λ reader. reader.part.bytes ≡ take len (D.reads disk.old file)) }
+    ensures opened { IfOk result (λ reader. IsOpened file len reader) }
+    ensures part { IsTrue (D.state disk.old).honest
+        → IfOk result (λ reader. reader.part.bytes ≡ take len ((D.state disk.old).reads file)) }
     // When the error comes.
-    ensures only { IsTrue (D.honest disk.old) → (all : List Stored) → IsPart (take len (D.reads disk.old file)) all
-        → len ≤ length (D.reads disk.old file) → IfErr result IsNoDamage }
-    ensures damaged { IsTrue (D.honest disk.old) → IfErr result (λ fault. IsFileFault file len (take len (D.reads disk.old file)) fault) }
+    ensures only { IsTrue (D.state disk.old).honest → (all : List Stored)
+        → IsPart (take len ((D.state disk.old).reads file)) all
+        → len ≤ length ((D.state disk.old).reads file) → IfErr result IsNoDamage }
+    ensures damaged { IsTrue (D.state disk.old).honest
+        → IfErr result (λ fault.
+        IsFileFault file len (take len ((D.state disk.old).reads file)) fault) }
     ensures damage { IfErr result (λ fault. IsDamage file len fault) }
-    ensures counted { D.read_faults disk.old ≤ D.read_faults disk.new }
-    ensures cause { IsErrOf result PartFault.DiskFault → Rose (D.read_faults disk.old) (D.read_faults disk.new) }
-    // What stays, and what is left at each moment.
-    ensures quiet { Quiet D.honest D.reads D.may_leave D.moment D.left_since disk.old disk.new }
-    ensures write_faults { D.write_faults disk.new ≡ D.write_faults disk.old }
-    ensures bytes_read { IsTrue (D.honest disk.old) → D.bytes_read disk.new ≤ D.bytes_read disk.old + len }
+    ensures cause { IsErrOf result PartFault.DiskFault
+        → Rose (D.state disk.old).read_faults (D.state disk.new).read_faults }
+    // What stays.
+    ensures reads { OnlyReads len (D.state disk.old) (D.state disk.new) }
+    // At each moment.
+    ensures time { Elapses 2 (Each (D.state disk.old).may_leave)
+        (D.state disk.old) (D.state disk.new) }
 {
     let bytes = match read_front(alloc, disk, file, len) {
         Ok(bytes) => bytes,
@@ -62,13 +65,14 @@ fn read_front<D: Disk>(
     file: u64,
     len: u64,
 ) -> Result<Vec<u8>, FileFault>
-    ensures bytes { IsTrue (D.honest disk.old) → IfOk result (λ bytes. bytes.items ≡ take len (D.reads disk.old file)) }
+    ensures bytes { IsTrue (D.state disk.old).honest
+        → IfOk result (λ bytes. bytes.items ≡ take len ((D.state disk.old).reads file)) }
     ensures within { IfOk result (λ bytes. length bytes.items ≤ len) }
-    ensures counted { D.read_faults disk.old ≤ D.read_faults disk.new }
-    ensures cause { IsErrOf result NotRead → Rose (D.read_faults disk.old) (D.read_faults disk.new) }
-    ensures quiet { Quiet D.honest D.reads D.may_leave D.moment D.left_since disk.old disk.new }
-    ensures write_faults { D.write_faults disk.new ≡ D.write_faults disk.old }
-    ensures bytes_read { IsTrue (D.honest disk.old) → D.bytes_read disk.new ≤ D.bytes_read disk.old + len }
+    ensures cause { IsErrOf result NotRead
+        → Rose (D.state disk.old).read_faults (D.state disk.new).read_faults }
+    ensures reads { OnlyReads len (D.state disk.old) (D.state disk.new) }
+    ensures time { Elapses 2 (Each (D.state disk.old).may_leave)
+        (D.state disk.old) (D.state disk.new) }
 {
     let there = disk.len(file)?;
     let mut bytes = vec![in alloc; 0; min(there, len) as usize]?;

@@ -1,7 +1,7 @@
 //! A part on its way into a file.
 
-ghost use Rattle.std.specs.Prelude.{◌≡◌, ◌≢◌, ℕ, ◌+◌, ◌^◌, ◌<◌, ◌≤◌, length, IfOk, OnOk, OnErr, IsTrue};
-ghost use Rattle.vm_outside.specs.Disk.{Follows, Leaves, Torn};
+ghost use Rattle.std.specs.Prelude.{◌≡◌, ◌^◌, ◌<◌, ◌≤◌, length, IfOk, OnOk, OnErr, IsTrue};
+ghost use Rattle.vm_outside.specs.Disk.{OnlyChanges, Passes, Torn};
 ghost use Rattle.vm_outside.specs.Outside.{Rose};
 ghost use Rattle.vm_part.specs.Files.{HasWritten, IsDurable, IsStep, next_len};
 
@@ -73,26 +73,23 @@ impl PartWriter {
     ///
     /// After an error the writer is unchanged, and the same call may be made again.
     pub fn finish_step<D: Disk>(&mut self, disk: &mut D) -> Result<Writing, Failed>
-        requires written { IsTrue (D.honest disk.old) → HasWritten self.old (D.reads disk.old) }
+        requires written { IsTrue (D.state disk.old).honest
+            → HasWritten self.old (D.state disk.old).reads }
         // What `Ok` holds, and what an error leaves.
         ensures step { IfOk result (λ writing. IsStep self.old self.new writing) }
-        ensures durable { IsTrue (D.honest disk.old) → IfOk result (λ writing. IsDurable self.old (D.may_leave disk.new) writing) }
+        ensures durable { IsTrue (D.state disk.old).honest
+            → IfOk result (λ writing. IsDurable self.old (D.state disk.new).may_leave writing) }
         ensures unchanged { OnErr result (self.new ≡ self.old) }
-        ensures written { IsTrue (D.honest disk.old) → HasWritten self.new (D.reads disk.new) }
+        ensures written { IsTrue (D.state disk.old).honest
+            → HasWritten self.new (D.state disk.new).reads }
         // What stays.
-        ensures honest { D.honest disk.new ≡ D.honest disk.old }
-        ensures others { IsTrue (D.honest disk.old) → (other : ℕ) → other ≢ self.old.file
-            → D.reads disk.new other ≡ D.reads disk.old other }
-        ensures bytes_read { IsTrue (D.honest disk.old) → D.bytes_read disk.new ≡ D.bytes_read disk.old }
-        ensures read_faults { D.read_faults disk.new ≡ D.read_faults disk.old }
+        ensures changes { OnlyChanges self.old.file (Torn self.old.done (next_len self.old))
+            (D.state disk.old) (D.state disk.new) }
         // At each moment.
-        ensures crash { Follows self.old.file (Torn self.old.done (next_len self.old)) (D.may_leave disk.old) (D.may_leave disk.new) }
-        ensures any_moment { Leaves D.moment D.left_since disk.old disk.new
-            (λ image. Follows self.old.file (Torn self.old.done (next_len self.old)) (D.may_leave disk.old) (λ f left. left ≡ image f)) }
-        ensures one_call { D.moment disk.new ≤ D.moment disk.old + 1 }
+        ensures time { Passes (D.state disk.old) (D.state disk.new) }
         // When the error comes.
-        ensures counted { D.write_faults disk.old ≤ D.write_faults disk.new }
-        ensures cause { OnErr result (Rose (D.write_faults disk.old) (D.write_faults disk.new)) }
+        ensures cause { OnErr result
+            (Rose (D.state disk.old).write_faults (D.state disk.new).write_faults) }
     {
         let bytes = self.part.image();
         let len = min(PIECE, bytes.len() - self.done);
