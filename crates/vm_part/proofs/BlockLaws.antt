@@ -22,8 +22,8 @@ use Rattle.vm_part.specs.Broken.BreaksBehind.{no_header, bad_header, misplaced, 
 use Rattle.vm_part.specs.Broken.SomeBreaks.{here as breaks_first, later as breaks_later}
 use Rattle.vm_part.specs.Broken.Stand.{none, next}
 use Rattle.vm_part.specs.Part.{Block, SaysSamples, block_bytes, blocks_bytes, first_of, samples_in, time_of}
-use Rattle.vm_part.specs.Reading.{AllStand, HasAllBlocks, HasSeries, HasHeader, IsBlockFault, IsBlocksFault, IsBodyFault, IsSeriesFault, Joins, NoHeader, PlacesRise, Saw, may_come}
-use Rattle.vm_part.specs.Reading.AllStand.{none as no_series, next as series_more}
+use Rattle.vm_part.specs.inner.Reading.{AllStand, HasAllBlocks, HasSeries, HasHeader, IsBlockFault, IsBlocksFault, IsBodyFault, IsSeriesFault, Joins, NoHeader, PlacesRise, Saw, may_come}
+use Rattle.vm_part.specs.inner.Reading.AllStand.{none as no_series, next as series_more}
 use Rattle.vm_part.specs.declared.blocks.Seen.{Seen}
 use Rattle.vm_part.specs.declared.entry.Entry.{Entry}
 use Rattle.vm_part.specs.declared.fault.ReadFault.{ReadFault}

@@ -17,7 +17,7 @@ use Rattle.vm_index.proofs.ListLaws.{all_append}
 use Rattle.vm_labels.specs.declared.pair.Pair.{Pair}
 use Rattle.vm_series.specs.Series.{HasSample, IsByTime}
 use Rattle.vm_series.specs.declared.series.Series.{Series}
-use Rattle.vm_part.specs.Making.{AreSamples, ArePut, IsPut, IsWritable, footer_bytes, summed, with_sections}
+use Rattle.vm_part.specs.inner.Making.{AreSamples, ArePut, IsPut, IsWritable, footer_bytes, summed, with_sections}
 use Rattle.vm_part.specs.Part.{Block, IsStored, SaysSamples, Stored, block_bytes, blocks_bytes, entries, entries_from, entries_of, entry_bytes, entry_of, first_of, front, front_mark, image, samples_in, samples_of, series_bytes, sets_of, time_of}
 use Rattle.vm_part.specs.Said.{AreBlocks, AreCutUp, CanBeStored, InTime, Kept, Says}
 use Rattle.vm_part.specs.Said.AreCutUp.{none, next}

@@ -5,7 +5,7 @@ use Rattle.std.proofs.lemmas.Bool.{and_parts, cases_eq, eq-eqb, eqb-true, leb-tr
 use Rattle.std.proofs.lemmas.List.Sums.{sum_by-cons}
 use Rattle.vm_block.specs.Header.{first_broken, is_last_time, is_time}
 use Rattle.vm_part.specs.Broken.{ends_there, entries_at, entries_rules, entry_at, entry_rules, may_start, none_without_blocks}
-use Rattle.vm_part.specs.Reading.{PlacesRise}
+use Rattle.vm_part.specs.inner.Reading.{PlacesRise}
 use Rattle.vm_part.specs.declared.entry.Entry.{Entry}
 use Rattle.vm_part.proofs.RuleLaws.{broken_front, kept_front, kept_one, kept_parts}
 

@@ -10,7 +10,7 @@ use Rattle.vm_index.proofs.ReadLaws.{IsBytes}
 use Rattle.vm_labels.specs.declared.pair.Pair.{Pair}
 use Rattle.vm_part.specs.Broken.{Breaks, IsReadFault, end_of, entries_at, footer_at, postings_in, rules, table_in}
 use Rattle.vm_part.specs.Broken.Breaks.{wrong_field, in_table, in_postings, in_blocks}
-use Rattle.vm_part.specs.Reading.{AreSections, HasAllBlocks, IsBlocksFault, IsFaultOf, IsIndexFault, PlacesRise, entries_section_rules, front_rules}
+use Rattle.vm_part.specs.inner.Reading.{AreSections, HasAllBlocks, IsBlocksFault, IsFaultOf, IsIndexFault, PlacesRise, entries_section_rules, front_rules}
 use Rattle.vm_part.specs.Said.{Says}
 use Rattle.vm_part.specs.declared.entry.Entry.{Entry}
 use Rattle.vm_part.specs.declared.fault.ReadFault.{ReadFault}

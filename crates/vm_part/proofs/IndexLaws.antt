@@ -11,7 +11,7 @@ use Rattle.vm_index.specs.Reading.{BreaksBehind, IsRefused, TableBreaks, behind_
 use Rattle.vm_index.specs.Reading.BreaksBehind.{left_over, no_length, past_the_end, no_set, no_rise}
 use Rattle.vm_index.specs.declared.fault.IndexFault.TheVariants.{BrokenTable, BrokenPostings}
 use Rattle.vm_part.specs.Broken.{between, postings_in, table_in}
-use Rattle.vm_part.specs.Reading.{AreSections}
+use Rattle.vm_part.specs.inner.Reading.{AreSections}
 use Rattle.vm_part.specs.declared.footer.Footer.{Footer}
 
 label_within : (bytes : List ℕ) (at : ℕ) → label_set_of bytes ≡ Err at → at ≤ length bytes

@@ -16,7 +16,7 @@ use Rattle.vm_labels.specs.declared.pair.Pair.{Pair}
 use Rattle.vm_labels.specs.declared.row.Row.{Row}
 use Rattle.vm_series.specs.Series.{row_of, rows_of_piece}
 use Rattle.vm_series.specs.declared.series.Piece.{Piece}
-use Rattle.vm_part.specs.Merging.{AreRead, rows_beside}
+use Rattle.vm_part.specs.inner.Merging.{AreRead, rows_beside}
 use Rattle.vm_part.specs.Part.{Block, IsStored, SaysSamples, Stored, samples_in, samples_of, sets_of}
 use Rattle.vm_part.specs.Said.{Hold, IsRow, Kept, Says, SaysAll, rows_in, rows_of}
 use Rattle.vm_part.specs.Said.Hold.{none, next}

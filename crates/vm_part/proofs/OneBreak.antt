@@ -22,7 +22,7 @@ use Rattle.vm_part.specs.Broken.BreaksBehind.{bad_body, bad_header, misplaced, n
 use Rattle.vm_part.specs.Broken.SomeBreaks.{here, later}
 use Rattle.vm_part.specs.Broken.Stand.{next, none}
 use Rattle.vm_part.specs.Part.{Block, SaysSamples, block_bytes, blocks_bytes}
-use Rattle.vm_part.specs.Reading.{PlacesRise, entries_section_rules, front_rules}
+use Rattle.vm_part.specs.inner.Reading.{PlacesRise, entries_section_rules, front_rules}
 use Rattle.vm_part.specs.declared.entry.Entry.{Entry}
 use Rattle.vm_part.specs.declared.footer.Footer.{Footer}
 use Rattle.vm_part.proofs.BlockLaws.{stand_blocks, stand_fits}

@@ -11,7 +11,7 @@ use Rattle.vm_block.specs.Header.{field, first_broken, is_last_time, is_time}
 use Rattle.vm_block.proofs.Headers.{ranges}
 use Rattle.vm_part.specs.Broken.{ends_there, entries_at, entries_rules, entry_at, entry_rules, footer_at, is_whole, may_start, none_without_blocks, number_at, rules}
 use Rattle.vm_part.specs.Part.{AreStored, Block, IsStored, SaysSamples, Stored, block_bytes, blocks_bytes, end_mark, entries, entries_from, entries_of, entry_of, first_of, front, front_mark, postings, samples_in, samples_of, series_bytes, table, time_of}
-use Rattle.vm_part.specs.Reading.{entries_section_rules, front_rules, has_mark}
+use Rattle.vm_part.specs.inner.Reading.{entries_section_rules, front_rules, has_mark}
 use Rattle.vm_part.specs.declared.entry.Entry.{Entry}
 use Rattle.vm_part.specs.declared.footer.Footer.{Footer}
 use Rattle.vm_part.proofs.BlockLaws.{block_long, ends, last_append, samples_many}

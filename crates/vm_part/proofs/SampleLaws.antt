@@ -11,7 +11,7 @@ use Rattle.vm_block.proofs.Blocks.{one_block}
 use Rattle.vm_block.proofs.Rereading.{header_len, header_of_bytes}
 use Rattle.vm_part.specs.Part.{Block, IsPart, IsStored, Stored, block_bytes, blocks_bytes, entries, entries_from, entries_of, entry_of, footer, front_mark, image, postings, samples_in, samples_of, series_bytes, table}
 use Rattle.vm_part.specs.Said.{Kept}
-use Rattle.vm_part.specs.Standing.{AreHeader, BeginsWith, BeginsWithAll, HasBlock, HasBlocks, StandAt}
+use Rattle.vm_part.specs.inner.Standing.{AreHeader, BeginsWith, BeginsWithAll, HasBlock, HasBlocks, StandAt}
 use Rattle.vm_part.specs.declared.entry.Entry.{Entry}
 
 -- ---- one block at the front

@@ -6,7 +6,7 @@ use Rattle.std.proofs.lemmas.Slice.Eq.{bytes_eq-Decides}
 use Rattle.vm_block.specs.Header.{field, first_broken}
 use Rattle.vm_part.specs.Broken.{footer_at, is_whole, number_at}
 use Rattle.vm_part.specs.Part.{end_mark, front_mark}
-use Rattle.vm_part.specs.Reading.{AreSections, front_rules, has_mark, is_entries_place, is_postings_place, is_series_count, is_table_place}
+use Rattle.vm_part.specs.inner.Reading.{AreSections, front_rules, has_mark, is_entries_place, is_postings_place, is_series_count, is_table_place}
 use Rattle.vm_part.specs.declared.footer.Footer.{Footer}
 
 -- ---- the first broken one

@@ -14,8 +14,8 @@ use Rattle.vm_index.proofs.ReadLaws.{IsBytes}
 use Rattle.vm_labels.specs.declared.pair.Pair.{Pair}
 use Rattle.vm_part.specs.Broken.{SeriesStands, end_of, entries_at, footer_at, number_at, postings_in, table_in}
 use Rattle.vm_part.specs.Part.{Block, IsStored, Stored, blocks_bytes, entries, entries_from, entry_bytes, entry_of, footer, front, front_mark, image, postings, samples_in, samples_of, series_bytes, sets_of, table}
-use Rattle.vm_part.specs.Reading.{AllStand, AreSections, HasAllBlocks}
-use Rattle.vm_part.specs.Reading.AllStand.{none, next}
+use Rattle.vm_part.specs.inner.Reading.{AllStand, AreSections, HasAllBlocks}
+use Rattle.vm_part.specs.inner.Reading.AllStand.{none, next}
 use Rattle.vm_part.specs.Said.{Says}
 use Rattle.vm_part.specs.declared.entry.Entry.{Entry}
 use Rattle.vm_part.specs.declared.footer.Footer.{Footer}

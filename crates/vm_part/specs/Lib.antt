@@ -1,8 +1,5 @@
 pub mod Broken
 pub mod Files
-pub mod Making
-pub mod Merging
 pub mod Part
-pub mod Reading
 pub mod Said
-pub mod Standing
+pub mod inner

@@ -4,7 +4,7 @@ ghost use Rattle.vm_base.specs.Sorted.{last_of};
 ghost use Rattle.vm_block.specs.Block.{IsBlock};
 ghost use Rattle.vm_block.specs.Header.{IsHeader};
 ghost use Rattle.vm_part.specs.Broken.{end_of, first_sample, may_follow};
-ghost use Rattle.vm_part.specs.Reading.{HasAllBlocks, HasSeries, HasHeader, IsBlockFault, IsBlocksFault, IsBodyFault, IsSeriesFault, Joins, NoHeader, PlacesRise, may_come};
+ghost use Rattle.vm_part.specs.inner.Reading.{HasAllBlocks, HasSeries, HasHeader, IsBlockFault, IsBlocksFault, IsBodyFault, IsSeriesFault, Joins, NoHeader, PlacesRise, may_come};
 
 use crate::{Entry, ReadFault};
 use std::alloc::Global;

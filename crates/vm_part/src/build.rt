@@ -3,7 +3,7 @@
 ghost use Rattle.std.specs.Prelude.{◌≡◌, ◌≤◌, length, map, sum_by, IfOk, OnOk};
 ghost use Rattle.std.specs.List.{AllByRecursion};
 ghost use Rattle.vm_index.specs.Index.{AreSets};
-ghost use Rattle.vm_part.specs.Making.{ArePut, AreSamples, IsPut, IsWritable, summed, with_sections};
+ghost use Rattle.vm_part.specs.inner.Making.{ArePut, AreSamples, IsPut, IsWritable, summed, with_sections};
 ghost use Rattle.vm_part.specs.Said.{CanBeStored, IsMadeOf};
 
 use crate::footer::{FRONT_MARK, Footer};

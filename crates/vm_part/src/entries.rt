@@ -2,7 +2,7 @@
 ghost use Rattle.std.specs.Prelude.{◌≡◌, ◌==◌, ◌+◌, ◌*◌, ◌^◌, ◌<◌, ◌≤◌, ◌&&◌, ◌||◌, nat_le, not, length, None, Some, IfOk, IfErr, OnOk};
 ghost use Rattle.vm_block.specs.Header.{first_broken, is_last_time, is_time};
 ghost use Rattle.vm_part.specs.Broken.{ends_there, entries_at, entry_at, entry_rules, may_start, none_without_blocks};
-ghost use Rattle.vm_part.specs.Reading.{IsFaultOf, entries_section_rules};
+ghost use Rattle.vm_part.specs.inner.Reading.{IsFaultOf, entries_section_rules};
 
 use crate::fields::{check, number_at};
 use crate::footer::Footer;

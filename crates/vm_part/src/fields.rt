@@ -1,7 +1,7 @@
 //! Fields of bytes that are read, each with its rule.
 ghost use Rattle.std.specs.Prelude.{◌≡◌, ◌+◌, ◌^◌, ◌<◌, ◌≤◌, true, false, OnOk, IfOk, IfErr, length};
 ghost use Rattle.vm_part.specs.Broken.{is_whole, number_at};
-ghost use Rattle.vm_part.specs.Reading.{has_mark};
+ghost use Rattle.vm_part.specs.inner.Reading.{has_mark};
 
 use vm_base::Broken;
 

@@ -2,7 +2,7 @@
 ghost use Rattle.std.specs.Prelude.{◌≡◌, ◌==◌, ◌+◌, ◌-◌, ◌*◌, ◌^◌, ◌<◌, ◌≤◌, true, false, None, Some, IfOk, IfErr, OnOk};
 ghost use Rattle.vm_block.specs.Header.{first_broken};
 ghost use Rattle.vm_part.specs.Broken.{footer_at, number_at};
-ghost use Rattle.vm_part.specs.Reading.{AreSections, front_rules, is_entries_place, is_postings_place, is_series_count, is_table_place};
+ghost use Rattle.vm_part.specs.inner.Reading.{AreSections, front_rules, is_entries_place, is_postings_place, is_series_count, is_table_place};
 
 use crate::fields::{check, has_mark, read_number};
 use vm_base::Broken;

@@ -6,7 +6,7 @@ ghost use Rattle.vm_dedup.specs.Visible.{stamped};
 ghost use Rattle.vm_series.specs.Series.{rows_of_piece};
 ghost use Rattle.vm_part.specs.Part.{Stored, samples_of};
 ghost use Rattle.vm_part.specs.Said.{Says, SaysAll, rows_in};
-ghost use Rattle.vm_part.specs.Merging.{AreRead, rows_beside};
+ghost use Rattle.vm_part.specs.inner.Merging.{AreRead, rows_beside};
 
 use crate::MemPart;
 use crate::series::read_blocks;

@@ -2,7 +2,7 @@
 
 ghost use Rattle.std.specs.Prelude.{◌≡◌, ◌++◌, flat_map, OnOk};
 ghost use Rattle.std.specs.Int.{w64, to_be_bytes};
-ghost use Rattle.vm_part.specs.Making.{footer_bytes};
+ghost use Rattle.vm_part.specs.inner.Making.{footer_bytes};
 ghost use Rattle.vm_part.specs.Part.{entry_bytes};
 
 use crate::Entry;

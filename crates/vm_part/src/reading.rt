@@ -6,7 +6,7 @@ ghost use Rattle.vm_index.specs.Index.{postings_of};
 ghost use Rattle.vm_index.specs.Reading.{IsTable};
 ghost use Rattle.vm_part.specs.Broken.{IsReadFault, postings_in, table_in};
 ghost use Rattle.vm_part.specs.Part.{IsPart, Stored};
-ghost use Rattle.vm_part.specs.Reading.{AreSections, IsIndexFault};
+ghost use Rattle.vm_part.specs.inner.Reading.{AreSections, IsIndexFault};
 ghost use Rattle.vm_part.specs.Said.{Says};
 ghost use Rattle.vm_part.specs.declared.fault.ReadFault.TheVariants.{Memory};
 

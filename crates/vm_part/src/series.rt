@@ -5,7 +5,7 @@ ghost use Rattle.vm_base.specs.declared.stamped.Stamped.{Stamped};
 ghost use Rattle.vm_block.specs.Block.{IsBlock};
 ghost use Rattle.vm_block.specs.Header.{IsHeader, header_bytes};
 ghost use Rattle.vm_part.specs.Part.{Block, samples_in};
-ghost use Rattle.vm_part.specs.Standing.{AreHeader, BeginsWith, HasBlock, HasBlocks, StandAt};
+ghost use Rattle.vm_part.specs.inner.Standing.{AreHeader, BeginsWith, HasBlock, HasBlocks, StandAt};
 
 use crate::Entry;
 use std::alloc::{AllocError, Global};

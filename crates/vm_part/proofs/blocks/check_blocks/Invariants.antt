@@ -1,7 +1,7 @@
 use Rattle.std.proofs.Common.{ℕ, List, drop}
 use Rattle.vm_part.specs.Broken.{SomeBreaks}
 use Rattle.vm_part.specs.Part.{Block}
-use Rattle.vm_part.specs.Reading.{AllStand, HasAllBlocks, PlacesRise}
+use Rattle.vm_part.specs.inner.Reading.{AllStand, HasAllBlocks, PlacesRise}
 use Rattle.vm_part.proofs.blocks.check_blocks.Given as goal
 
 -- what holds of the series that are left holds of all

@@ -1,6 +1,6 @@
 -- What was written is a part of the series.
 use Rattle.std.proofs.Common.{length, sum_by, ap, ◌∙◌, sym, subst, arith}
-use Rattle.vm_part.specs.Making.{ArePut, with_sections}
+use Rattle.vm_part.specs.inner.Making.{ArePut, with_sections}
 use Rattle.vm_part.specs.Said.{AreCutUp, IsMadeOf, Kept}
 use Rattle.vm_part.specs.declared.entry.Entry.{Entry}
 use Rattle.vm_part.proofs.BuildLaws.{made, weaker}

@@ -3,7 +3,7 @@ use Rattle.std.proofs.Common.{◌≡◌, ◌≤◌, ◌++◌, length, sym, ap, a
 use Rattle.std.proofs.lemmas.List.{take_all}
 use Rattle.vm_block.specs.Cut.{AreOneBlock, IsCut}
 use Rattle.vm_block.specs.Written.{IsWritten}
-use Rattle.vm_part.specs.Making.{summed}
+use Rattle.vm_part.specs.inner.Making.{summed}
 use Rattle.vm_part.proofs.BuildLaws.{WrittenSoFar, all_written, may_be_written, none_written, one_written}
 use Rattle.vm_part.proofs.build.put_blocks.Goals as goal
 

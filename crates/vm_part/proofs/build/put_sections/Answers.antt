@@ -1,7 +1,7 @@
 -- The sections, one behind the other.
 use Rattle.std.proofs.Common.{◌≡◌, ◌++◌, length, ap, ◌∙◌, arith}
 use Rattle.std.proofs.lemmas.Result.{IfOk-weaker}
-use Rattle.vm_part.specs.Making.{footer_bytes, with_sections}
+use Rattle.vm_part.specs.inner.Making.{footer_bytes, with_sections}
 use Rattle.vm_part.proofs.BuildLaws.{footer_with, sections_put}
 use Rattle.vm_part.proofs.build.put_sections.Goals as goal
 

@@ -1,6 +1,6 @@
 -- One series more.
 use Rattle.std.proofs.Common.{◌+◌, [], take, sym, subst}
-use Rattle.vm_part.specs.Making.{ArePut}
+use Rattle.vm_part.specs.inner.Making.{ArePut}
 use Rattle.vm_part.proofs.BuildLaws.{none_put, one_put}
 use Rattle.vm_part.proofs.build.put_series.Goals as goal
 

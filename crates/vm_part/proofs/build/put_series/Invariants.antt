@@ -1,5 +1,5 @@
 use Rattle.std.proofs.Common.{take}
-use Rattle.vm_part.specs.Making.{ArePut}
+use Rattle.vm_part.specs.inner.Making.{ArePut}
 use Rattle.vm_part.proofs.build.put_series.Given as goal
 
 abbrev pub invariant-loop-one : goal.invariant-loop-one

@@ -1,7 +1,7 @@
 -- The first field that breaks its rule, or the sections.
 use Rattle.std.proofs.Common.{◌-◌, Some, sym, ap, ◌∙◌, subst}
 use Rattle.std.proofs.lemmas.Result.{err_from_is_err_and}
-use Rattle.vm_part.specs.Reading.{AreSections}
+use Rattle.vm_part.specs.inner.Reading.{AreSections}
 use Rattle.vm_part.specs.declared.footer.Footer.{Footer}
 use Rattle.vm_part.proofs.SectionLaws.{broken_entries, broken_front, broken_mark, broken_postings, broken_rows, broken_series, broken_table, none_broken, footer_is, sections}
 use Rattle.vm_part.proofs.footer.read_footer.Goals as goal

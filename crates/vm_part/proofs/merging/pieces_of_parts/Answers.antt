@@ -3,7 +3,7 @@ use Rattle.std.proofs.Common.{◌≤◌, ◌++◌, length, flat_map, ap, ◌∙�
 use Rattle.std.proofs.lemmas.Grind.{common_steps}
 use Rattle.std.proofs.lemmas.List.{take_all}
 use Rattle.vm_series.specs.Series.{rows_of_piece}
-use Rattle.vm_part.specs.Merging.{rows_beside}
+use Rattle.vm_part.specs.inner.Merging.{rows_beside}
 use Rattle.vm_part.specs.Said.{rows_in}
 use Rattle.vm_part.proofs.MergeLaws.{as_many, as_many_read, kept, many_read, one_more_part, part_at}
 use Rattle.vm_part.proofs.merging.pieces_of_parts.Goals as goal

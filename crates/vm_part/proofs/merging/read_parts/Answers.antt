@@ -1,6 +1,6 @@
 -- One part more.
 use Rattle.std.proofs.Common.{◌≡◌, ◌+◌, take, map, sym, subst}
-use Rattle.vm_part.specs.Merging.{AreRead}
+use Rattle.vm_part.specs.inner.Merging.{AreRead}
 use Rattle.vm_part.specs.Part.{samples_of}
 use Rattle.vm_part.specs.Said.{Says}
 use Rattle.vm_part.proofs.MergeLaws.{kept, one_part_read}

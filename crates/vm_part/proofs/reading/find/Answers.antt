@@ -3,7 +3,7 @@ use Rattle.std.proofs.Common.{◌-◌, ◌∙◌, subst, arith}
 use Rattle.std.proofs.lemmas.Result.{err_from_is_err_and}
 use Rattle.vm_index.proofs.ReadLaws.{IsBytes}
 use Rattle.vm_part.specs.Broken.Breaks.{too_short}
-use Rattle.vm_part.specs.Reading.{HasAllBlocks}
+use Rattle.vm_part.specs.inner.Reading.{HasAllBlocks}
 use Rattle.vm_part.proofs.FileLaws.{blocks_fault, entries_fault, entries_rise, file_long, file_says, footer_fault, index_fault, rules_kept}
 use Rattle.vm_part.proofs.reading.find.Goals as goal
 

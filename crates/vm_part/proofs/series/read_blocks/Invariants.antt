@@ -1,6 +1,6 @@
 use Rattle.std.proofs.Common.{◌-◌, List}
 use Rattle.vm_part.specs.Part.{Block}
-use Rattle.vm_part.specs.Standing.{StandAt}
+use Rattle.vm_part.specs.inner.Standing.{StandAt}
 use Rattle.vm_part.proofs.SampleLaws.{RestOf}
 use Rattle.vm_part.proofs.series.read_blocks.Given as goal
 

@@ -3,7 +3,7 @@ use Rattle.std.proofs.Common.{◌≡◌, List, Some, map, slice_get}
 use Rattle.std.proofs.lemmas.Result.{IfOk-weaker}
 use Rattle.vm_part.specs.Part.{Block, samples_in, samples_of}
 use Rattle.vm_part.specs.Said.{Says}
-use Rattle.vm_part.specs.Standing.{StandAt}
+use Rattle.vm_part.specs.inner.Standing.{StandAt}
 use Rattle.vm_part.proofs.SampleLaws.{blocks_there, series_read, standing}
 use Rattle.vm_part.proofs.part.MemPart.samples.Goals as goal
 

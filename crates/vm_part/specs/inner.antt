@@ -1,0 +1,4 @@
+pub mod Making
+pub mod Merging
+pub mod Reading
+pub mod Standing
