@@ -67,7 +67,8 @@ rest_kind (Pairs one other) index = if index % 2 == 0 then Some one else Some ot
 -- what the argument at an index is, counted from 0; none may stand where there is no kind
 abbrev pub kind_at : List Kind → Rest → ℕ → Option Kind
 kind_at first rest index =
-    if nat_lt index (length first) then slice_get first index else rest_kind rest (index - length first)
+    if nat_lt index (length first) then slice_get first index
+    else rest_kind rest (index - length first)
 
 -- whether so many of these are whole pairs, where they come in pairs
 abbrev pub are_whole : Rest → ℕ → Bool

@@ -198,7 +198,8 @@ operator_pieces op truth matching =
 abbrev pub params_pieces : List Param → List Piece
 params_pieces [] = []
 params_pieces (param ∷ params) =
-    mark (codes "(") ∷ parted (mark (codes ",") ∷ []) (map (λ p. named p.name ∷ []) (param ∷ params))
+    mark (codes "(")
+    ∷ parted (mark (codes ",") ∷ []) (map (λ p. named p.name ∷ []) (param ∷ params))
     ++ mark (codes ")") ∷ []
 
 -- arguments or templates

@@ -22,12 +22,14 @@ count_of (next_tree tree trees) = suc (count_of trees)
 -- whether the argument at an index may be this
 abbrev pub may_be : Known → ℕ → Tree → Bool
 may_be known index tree =
-    option_map_or (λ kind. is_of_kind kind tree) (kind_at (first_kinds known) (rest_of known) index) false
+    option_map_or (λ kind. is_of_kind kind tree) (kind_at (first_kinds known) (rest_of known) index)
+    false
 
 -- whether these may be the arguments from an index on
 abbrev pub may_be_from : Known → ℕ → Trees → Bool
 may_be_from known index no_trees = true
-may_be_from known index (next_tree tree trees) = may_be known index tree && may_be_from known (suc index) trees
+may_be_from known index (next_tree tree trees) =
+    may_be known index tree && may_be_from known (suc index) trees
 
 -- whether a call may have these arguments
 abbrev pub arguments_fit : Known → Trees → Bool
@@ -41,14 +43,16 @@ words_fit _ before after keep = not (is_some before || is_some after)
 
 -- whether a call may have these arguments, groups and `keep_metric_names`
 abbrev pub call_fits : Known → Trees → (before after : Option Group) → (keep : Bool) → Bool
-call_fits known args before after keep = arguments_fit known args && words_fit known before after keep
+call_fits known args before after keep =
+    arguments_fit known args && words_fit known before after keep
 
 -- no fault where it fits, else `WrongArguments` at this place
 abbrev pub wrong_unless : Bool → ℕ → List CheckFault
 wrong_unless fits at = if fits then [] else WrongArguments at ∷ []
 
 -- a call of a function or an aggregate, if it is one
-abbrev pub call_faults : Option Known → ℕ → Trees → (before after : Option Group) → (keep : Bool) → List CheckFault
+abbrev pub call_faults : Option Known → ℕ → Trees → (before after : Option Group) → (keep : Bool)
+    → List CheckFault
 call_faults None at args before after keep = UnknownFunction at ∷ []
 call_faults (Some known) at args before after keep =
     wrong_unless (call_fits known args before after keep) at

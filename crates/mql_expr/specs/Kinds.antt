@@ -41,7 +41,8 @@ is_below z limit = option_map_or (λ most. int_lt z most) limit false
 
 -- a whole number below 2^32, which is 4294967296 * 10^0
 abbrev pub counts : ℤ → Bool
-counts z = not (int_lt z (pos 0)) && int_eq (floor_of z) z && is_below z (dec_of (pos 4294967296) (pos 0))
+counts z =
+    not (int_lt z (pos 0)) && int_eq (floor_of z) z && is_below z (dec_of (pos 4294967296) (pos 0))
 
 -- a written whole number below 2^32
 abbrev pub is_count : Tree → Bool
@@ -84,8 +85,10 @@ abbrev mutual
   is_numeric (string at text) = false
   is_numeric (select at name lists) = false
   is_numeric (ranged at inner window offset) = false
-  is_numeric (call at name args before after keep) = is_number_call (known_as name) (are_numeric args)
-  is_numeric (binary at op truth matching left right) = is_of_numbers op && is_numeric left && is_numeric right
+  is_numeric (call at name args before after keep) =
+      is_number_call (known_as name) (are_numeric args)
+  is_numeric (binary at op truth matching left right) =
+      is_of_numbers op && is_numeric left && is_numeric right
   is_numeric (negate at inner) = is_numeric inner
   is_numeric (with_templates at bindings body) = false
 

@@ -86,7 +86,10 @@ name_of (OfPoints function) = function_name function
 -- all functions over the samples in a window
 abbrev pub rollups : List Rollup
 rollups =
-    DefaultRollup ∷ LastOverTime ∷ FirstOverTime ∷ MinOverTime ∷ MaxOverTime ∷ AvgOverTime ∷ SumOverTime ∷ CountOverTime ∷ DistinctOverTime ∷ PresentOverTime ∷ RangeOverTime ∷ Changes ∷ Resets ∷ Delta ∷ Increase ∷ Rate ∷ DerivFast ∷ Idelta ∷ Ideriv ∷ Irate ∷ Lag ∷ Lifetime ∷ TfirstOverTime ∷ TlastOverTime ∷ TminOverTime ∷ TmaxOverTime ∷ []
+    DefaultRollup ∷ LastOverTime ∷ FirstOverTime ∷ MinOverTime ∷ MaxOverTime ∷ AvgOverTime
+    ∷ SumOverTime ∷ CountOverTime ∷ DistinctOverTime ∷ PresentOverTime ∷ RangeOverTime ∷ Changes
+    ∷ Resets ∷ Delta ∷ Increase ∷ Rate ∷ DerivFast ∷ Idelta ∷ Ideriv ∷ Irate ∷ Lag ∷ Lifetime
+    ∷ TfirstOverTime ∷ TlastOverTime ∷ TminOverTime ∷ TmaxOverTime ∷ []
 
 -- all aggregates
 abbrev pub aggregates : List Aggregate
@@ -96,7 +99,9 @@ aggregates =
 -- all functions over points or labels
 abbrev pub functions : List Function
 functions =
-    Abs ∷ Sgn ∷ Ceil ∷ Floor ∷ Round ∷ Clamp ∷ ClampMin ∷ ClampMax ∷ Scalar ∷ Vector ∷ Time ∷ Absent ∷ LabelSet ∷ LabelDel ∷ LabelKeep ∷ LabelCopy ∷ LabelJoin ∷ LabelReplace ∷ Union ∷ Sort ∷ SortDesc ∷ []
+    Abs ∷ Sgn ∷ Ceil ∷ Floor ∷ Round ∷ Clamp ∷ ClampMin ∷ ClampMax ∷ Scalar ∷ Vector ∷ Time ∷ Absent
+    ∷ LabelSet ∷ LabelDel ∷ LabelKeep ∷ LabelCopy ∷ LabelJoin ∷ LabelReplace ∷ Union ∷ Sort
+    ∷ SortDesc ∷ []
 
 -- all of these
 abbrev pub all_known : List Known

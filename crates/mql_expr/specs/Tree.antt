@@ -31,7 +31,8 @@ mutual
   -- the templates of a `with`
   pub data Templates : Type 0 where
     no_templates : Templates
-    next_template : (at : ℕ) → (name : List ℕ) → (params : List Param) → (body : Tree) → Templates → Templates
+    next_template : (at : ℕ) → (name : List ℕ) → (params : List Param) → (body : Tree) → Templates
+        → Templates
 
 -- trees as the arguments of a call
 abbrev pub trees_of : List Tree → Trees
@@ -56,7 +57,8 @@ node_tree (Node-F.Number z) at = number at z
 node_tree (Node-F.Str text) at = string at text
 node_tree (Node-F.Select name lists) at = select at name lists
 node_tree (Node-F.Ranged inner window offset) at = ranged at inner window offset
-node_tree (Node-F.Call name args before after keep) at = call at name (trees_of args) before after keep
+node_tree (Node-F.Call name args before after keep) at =
+    call at name (trees_of args) before after keep
 node_tree (Node-F.Binary op truth matching left right) at = binary at op truth matching left right
 node_tree (Node-F.Negate inner) at = negate at inner
 node_tree (Node-F.With templates body) at = with_templates at (templates_listed templates) body

@@ -80,7 +80,8 @@ impl Expr {
         templates: List<Template>,
         body: Expr,
     ) -> Result<Expr, AllocError>
-        ensures { IfOk result (λ e. tree e ≡ with_templates at (templates_in templates) (tree body)) }
+        ensures { IfOk result
+            (λ e. tree e ≡ with_templates at (templates_in templates) (tree body)) }
     {
         let body = Boxed::new(alloc, body)?;
         Ok(Expr {
@@ -91,7 +92,8 @@ impl Expr {
 
     /// A call with these arguments.
     pub fn call(at: u64, called: Called, args: List<Expr>) -> Expr
-        ensures { tree result ≡ call at called.name (trees_in args) called.before called.after called.keep }
+        ensures { tree result
+            ≡ call at called.name (trees_in args) called.before called.after called.keep }
     {
         let Called {
             name,
@@ -119,7 +121,8 @@ impl Expr {
         left: Expr,
         right: Expr,
     ) -> Result<Expr, AllocError>
-        ensures { IfOk result (λ e. tree e ≡ binary at joint.op joint.truth joint.matching (tree left) (tree right)) }
+        ensures { IfOk result
+            (λ e. tree e ≡ binary at joint.op joint.truth joint.matching (tree left) (tree right)) }
     {
         let left = Boxed::new(alloc, left)?;
         let right = Boxed::new(alloc, right)?;
@@ -144,7 +147,8 @@ impl Expr {
 impl Template {
     /// A template with this name, these parameters and this body.
     pub fn new(at: u64, name: Text, params: List<Param>, body: Expr) -> Template
-        ensures { template result ≡ record { at = at; name = name; params = params; body = tree body } }
+        ensures { template result
+            ≡ record { at = at; name = name; params = params; body = tree body } }
     {
         Template {
             at,

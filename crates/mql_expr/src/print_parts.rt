@@ -41,7 +41,8 @@ fn put_parted_names(names: &[Text], out: &mut Vec<u8>) -> Result<(), AllocError>
 
 /// Appends names, each after a comma.
 fn put_more_names(names: &[Text], out: &mut Vec<u8>) -> Result<(), AllocError>
-    ensures { OnOk result (out.new.items ≡ out.old.items ++ flat_map (λ name. 44 ∷ name) names.now) }
+    ensures { OnOk result
+        (out.new.items ≡ out.old.items ++ flat_map (λ name. 44 ∷ name) names.now) }
 {
     for name in names {
         out.push(b',')?;
@@ -89,7 +90,8 @@ pub(crate) fn put_select(
     lists: &[List<Item>],
     out: &mut Vec<u8>,
 ) -> Result<(), AllocError>
-    ensures { OnOk result (out.new.items ≡ out.old.items ++ text_of (select_pieces name.now lists.now)) }
+    ensures { OnOk result
+        (out.new.items ≡ out.old.items ++ text_of (select_pieces name.now lists.now)) }
 {
     if let Some(name) = name {
         put_text(name, out)?;
@@ -111,7 +113,9 @@ fn put_braces(lists: &[List<Item>], out: &mut Vec<u8>) -> Result<(), AllocError>
 
 /// Appends lists, each after an ` or `.
 fn put_more_lists(lists: &[List<Item>], out: &mut Vec<u8>) -> Result<(), AllocError>
-    ensures { OnOk result (out.new.items ≡ out.old.items ++ flat_map (λ items. codes " or " ++ text_of (list_pieces items)) lists.now) }
+    ensures { OnOk result
+        (out.new.items ≡ out.old.items
+        ++ flat_map (λ items. codes " or " ++ text_of (list_pieces items)) lists.now) }
 {
     for items in lists {
         out.extend_from_slice(b" or ")?;
@@ -132,7 +136,9 @@ fn put_list(items: &[Item], out: &mut Vec<u8>) -> Result<(), AllocError>
 
 /// Appends items, each after a comma.
 fn put_more_items(items: &[Item], out: &mut Vec<u8>) -> Result<(), AllocError>
-    ensures { OnOk result (out.new.items ≡ out.old.items ++ flat_map (λ item. 44 ∷ text_of (item_pieces item)) items.now) }
+    ensures { OnOk result
+        (out.new.items ≡ out.old.items
+        ++ flat_map (λ item. 44 ∷ text_of (item_pieces item)) items.now) }
 {
     for item in items {
         out.push(b',')?;
@@ -151,7 +157,8 @@ fn put_item(item: &Item, out: &mut Vec<u8>) -> Result<(), AllocError>
 }
 
 fn put_filter(filter: &Filter, out: &mut Vec<u8>) -> Result<(), AllocError>
-    ensures { OnOk result (out.new.items ≡ out.old.items ++ text_of (item_pieces (Item.Is filter.now))) }
+    ensures { OnOk result
+        (out.new.items ≡ out.old.items ++ text_of (item_pieces (Item.Is filter.now))) }
 {
     put_text(&filter.name, out)?;
     out.extend_from_slice(filter_op_text(filter.op))?;
@@ -216,7 +223,8 @@ pub(crate) fn put_before(
     after: &Option<Group>,
     out: &mut Vec<u8>,
 ) -> Result<(), AllocError>
-    ensures { OnOk result (out.new.items ≡ out.old.items ++ text_of (before_pieces before.now after.now)) }
+    ensures { OnOk result
+        (out.new.items ≡ out.old.items ++ text_of (before_pieces before.now after.now)) }
 {
     if let (Some(group), Some(_)) = (before, after) {
         put_group(group, out)?;
@@ -231,7 +239,8 @@ pub(crate) fn put_after(
     after: &Option<Group>,
     out: &mut Vec<u8>,
 ) -> Result<(), AllocError>
-    ensures { OnOk result (out.new.items ≡ out.old.items ++ text_of (after_pieces before.now after.now)) }
+    ensures { OnOk result
+        (out.new.items ≡ out.old.items ++ text_of (after_pieces before.now after.now)) }
 {
     match (before, after) {
         (_, Some(group)) => put_group(group, out),
@@ -270,7 +279,8 @@ pub(crate) fn put_operator(
     matching: &Matching,
     out: &mut Vec<u8>,
 ) -> Result<(), AllocError>
-    ensures { OnOk result (out.new.items ≡ out.old.items ++ text_of (operator_pieces op truth matching.now)) }
+    ensures { OnOk result
+        (out.new.items ≡ out.old.items ++ text_of (operator_pieces op truth matching.now)) }
 {
     out.push(b' ')?;
     out.extend_from_slice(op_text(op))?;
@@ -314,7 +324,8 @@ fn put_truth(truth: bool, out: &mut Vec<u8>) -> Result<(), AllocError>
 }
 
 fn put_matching(matching: &Matching, out: &mut Vec<u8>) -> Result<(), AllocError>
-    ensures { OnOk result (out.new.items ≡ out.old.items ++ text_of (matching_pieces matching.now)) }
+    ensures { OnOk result
+        (out.new.items ≡ out.old.items ++ text_of (matching_pieces matching.now)) }
 {
     put_kind(matching.kind, matching.names.as_slice(), out)?;
     put_many(matching.many, matching.extra.as_slice(), out)
@@ -342,7 +353,8 @@ fn put_many(many: Many, names: &[Text], out: &mut Vec<u8>) -> Result<(), AllocEr
 
 /// Appends a word and names in parentheses.
 fn put_modifier(word: &[u8], names: &[Text], out: &mut Vec<u8>) -> Result<(), AllocError>
-    ensures { OnOk result (out.new.items ≡ out.old.items ++ word.now ++ text_of (names_pieces names.now)) }
+    ensures { OnOk result
+        (out.new.items ≡ out.old.items ++ word.now ++ text_of (names_pieces names.now)) }
 {
     out.extend_from_slice(word)?;
     put_names(names, out)
@@ -363,7 +375,8 @@ pub(crate) fn put_params(params: &[Param], out: &mut Vec<u8>) -> Result<(), Allo
 
 /// Appends parameters, each after a comma.
 fn put_more_params(params: &[Param], out: &mut Vec<u8>) -> Result<(), AllocError>
-    ensures { OnOk result (out.new.items ≡ out.old.items ++ flat_map (λ param. 44 ∷ param.name) params.now) }
+    ensures { OnOk result
+        (out.new.items ≡ out.old.items ++ flat_map (λ param. 44 ∷ param.name) params.now) }
 {
     for param in params {
         out.push(b',')?;

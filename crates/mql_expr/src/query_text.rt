@@ -82,7 +82,9 @@ fn put_ranged(
     offset: Option<Span>,
     out: &mut Vec<u8>,
 ) -> Result<(), AllocError>
-    ensures { OnOk result (out.new.items ≡ out.old.items ++ text_of (pieces (ranged 0 (tree inner.now) window offset))) }
+    ensures { OnOk result
+        (out.new.items ≡ out.old.items
+        ++ text_of (pieces (ranged 0 (tree inner.now) window offset))) }
 {
     put_placed(10, inner, out)?;
     put_window(window, out)?;
@@ -92,7 +94,8 @@ fn put_ranged(
 /// Appends an expression with a minus before it.
 #[cycle(print)]
 fn put_negated(inner: &Expr, out: &mut Vec<u8>) -> Result<(), AllocError>
-    ensures { OnOk result (out.new.items ≡ out.old.items ++ text_of (pieces (negate 0 (tree inner.now)))) }
+    ensures { OnOk result
+        (out.new.items ≡ out.old.items ++ text_of (pieces (negate 0 (tree inner.now)))) }
 {
     out.push(b'-')?;
     put_placed(9, inner, out)
@@ -101,7 +104,8 @@ fn put_negated(inner: &Expr, out: &mut Vec<u8>) -> Result<(), AllocError>
 /// Appends the body of a WITH, with a blank before it.
 #[cycle(print)]
 fn put_body(body: &Expr, out: &mut Vec<u8>) -> Result<(), AllocError>
-    ensures { OnOk result (out.new.items ≡ out.old.items ++ text_of (blank ∷ placed 1 (tree body.now))) }
+    ensures { OnOk result
+        (out.new.items ≡ out.old.items ++ text_of (blank ∷ placed 1 (tree body.now))) }
 {
     out.push(b' ')?;
     put_placed(1, body, out)
@@ -110,7 +114,8 @@ fn put_body(body: &Expr, out: &mut Vec<u8>) -> Result<(), AllocError>
 /// Appends an expression, in parentheses where it binds less closely than its place wants.
 #[cycle(print)]
 fn put_placed(least: u8, expr: &Expr, out: &mut Vec<u8>) -> Result<(), AllocError>
-    ensures { OnOk result (out.new.items ≡ out.old.items ++ text_of (placed least (tree expr.now))) }
+    ensures { OnOk result
+        (out.new.items ≡ out.old.items ++ text_of (placed least (tree expr.now))) }
 {
     if level_of(expr) >= least {
         return put(expr, out);
@@ -124,7 +129,9 @@ fn put_placed(least: u8, expr: &Expr, out: &mut Vec<u8>) -> Result<(), AllocErro
 /// Appends the arguments of a call in parentheses.
 #[cycle(print)]
 fn put_args(args: &[Expr], out: &mut Vec<u8>) -> Result<(), AllocError>
-    ensures { OnOk result (out.new.items ≡ out.old.items ++ text_of (in_parentheses (arguments (trees_in args.now)))) }
+    ensures { OnOk result
+        (out.new.items ≡ out.old.items
+        ++ text_of (in_parentheses (arguments (trees_in args.now)))) }
 {
     out.push(b'(')?;
     for (index, arg) in args.iter().enumerate() {
@@ -138,7 +145,9 @@ fn put_args(args: &[Expr], out: &mut Vec<u8>) -> Result<(), AllocError>
 /// Appends the templates of a WITH in parentheses.
 #[cycle(print)]
 fn put_templates(templates: &[Template], out: &mut Vec<u8>) -> Result<(), AllocError>
-    ensures { OnOk result (out.new.items ≡ out.old.items ++ text_of (in_parentheses (bindings (templates_in templates.now)))) }
+    ensures { OnOk result
+        (out.new.items ≡ out.old.items
+        ++ text_of (in_parentheses (bindings (templates_in templates.now)))) }
 {
     out.push(b'(')?;
     for (index, template) in templates.iter().enumerate() {
@@ -161,7 +170,10 @@ fn put_comma_before(index: usize, out: &mut Vec<u8>) -> Result<(), AllocError>
 
 #[cycle(print)]
 fn put_template(template: &Template, out: &mut Vec<u8>) -> Result<(), AllocError>
-    ensures { OnOk result (out.new.items ≡ out.old.items ++ text_of (binding template.now.name template.now.params (placed 1 (tree template.now.body)))) }
+    ensures { OnOk result
+        (out.new.items ≡ out.old.items
+        ++ text_of
+        (binding template.now.name template.now.params (placed 1 (tree template.now.body)))) }
 {
     put_text(&template.name, out)?;
     put_params(template.params.as_slice(), out)?;

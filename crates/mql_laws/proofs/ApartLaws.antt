@@ -42,55 +42,75 @@ Apart (p ∷ ps) more = IsPiece p × (may_follow p (text_of ps ++ more) ≡ true
 abbrev pub tokens_at : ℕ → List Piece → List Token
 tokens_at at [] = []
 tokens_at at (blank ∷ ps) = tokens_at (at + 1) ps
-tokens_at at (word kind text ∷ ps) = record { kind = kind; at = at; len = length text } ∷ tokens_at (at + length text) ps
+tokens_at at (word kind text ∷ ps) =
+    record { kind = kind; at = at; len = length text } ∷ tokens_at (at + length text) ps
 
-any_mark_cut : (text more : List ℕ) → 0 < length text → IsToken Mark text → (is_lone_text text || ends_mark more) ≡ true → (at : ℕ)
-    → lexed 0 at (text ++ more) ≡ put_before (record { kind = Mark; at = at; len = length text } ∷ []) (lexed 0 (at + length text) more)
+any_mark_cut : (text more : List ℕ) → 0 < length text → IsToken Mark text
+    → (is_lone_text text || ends_mark more) ≡ true → (at : ℕ)
+    → lexed 0 at (text ++ more)
+    ≡ put_before (record { kind = Mark; at = at; len = length text } ∷ [])
+    (lexed 0 (at + length text) more)
 any_mark_cut [] more some is end at = absurd (omega arith)
 any_mark_cut (byte ∷ []) more some is end at = go (is_lone byte) refl end
   where
     go : (b : Bool) → is_lone byte ≡ b → (b || ends_mark more) ≡ true
-        → lexed 0 at (byte ∷ more) ≡ put_before (record { kind = Mark; at = at; len = 1 } ∷ []) (lexed 0 (at + 1) more)
+        → lexed 0 at (byte ∷ more)
+        ≡ put_before (record { kind = Mark; at = at; len = 1 } ∷ []) (lexed 0 (at + 1) more)
     go true lone e = lone_cut byte more at lone
     go false lone e = mark_cut (byte ∷ []) more at some is e
-any_mark_cut (byte ∷ other ∷ text) more some is end at = mark_cut (byte ∷ other ∷ text) more at some is end
+any_mark_cut (byte ∷ other ∷ text) more some is end at =
+    mark_cut (byte ∷ other ∷ text) more at some is end
 
-word_cut : (kind : TokenKind) (text more : List ℕ) → IsPiece (word kind text) → may_follow (word kind text) more ≡ true → (at : ℕ)
-    → lexed 0 at (text ++ more) ≡ put_before (record { kind = kind; at = at; len = length text } ∷ []) (lexed 0 (at + length text) more)
+word_cut : (kind : TokenKind) (text more : List ℕ) → IsPiece (word kind text)
+    → may_follow (word kind text) more ≡ true → (at : ℕ)
+    → lexed 0 at (text ++ more)
+    ≡ put_before (record { kind = kind; at = at; len = length text } ∷ [])
+    (lexed 0 (at + length text) more)
 word_cut Name text more is end at = plain_cut Name text more at (λ e. cc e) is.0 is.1 end
 word_cut Number text more is end at = plain_cut Number text more at (λ e. cc e) is.0 is.1 end
 word_cut Duration text more is end at = plain_cut Duration text more at (λ e. cc e) is.0 is.1 end
 word_cut Str text more is end at = plain_cut Str text more at (λ e. cc e) is.0 is.1 end
 word_cut Mark text more is end at = any_mark_cut text more is.0 is.1 end at
 
-pub apart_lexed : (ps : List Piece) (at : ℕ) → Apart ps [] → lexed 0 at (text_of ps) ≡ Ok (tokens_at at ps)
+pub apart_lexed : (ps : List Piece) (at : ℕ) → Apart ps []
+    → lexed 0 at (text_of ps) ≡ Ok (tokens_at at ps)
 apart_lexed [] at apart = refl
 apart_lexed (blank ∷ ps) at apart =
-    let end : ends_blank (text_of ps) ≡ true = ap ends_blank (sym (append-nil (text_of ps))) ∙ apart.1 in
+    let end : ends_blank (text_of ps) ≡ true = ap ends_blank (sym (append-nil (text_of ps)))
+    ∙ apart.1 in
     blank_cut (text_of ps) at end ∙ ap (put_before []) (apart_lexed ps (at + 1) apart.2)
 apart_lexed (word kind text ∷ ps) at apart =
-    let end : may_follow (word kind text) (text_of ps) ≡ true = ap (may_follow (word kind text)) (sym (append-nil (text_of ps))) ∙ apart.1 in
+    let end : may_follow (word kind text) (text_of ps) ≡ true =
+    ap (may_follow (word kind text)) (sym (append-nil (text_of ps))) ∙ apart.1 in
     word_cut kind text (text_of ps) apart.0 end at
-    ∙ ap (put_before (record { kind = kind; at = at; len = length text } ∷ [])) (apart_lexed ps (at + length text) apart.2)
+    ∙ ap (put_before (record { kind = kind; at = at; len = length text } ∷ []))
+    (apart_lexed ps (at + length text) apart.2)
 
 -- each token's slice is its word
-slices : (ps : List Piece) (front : List ℕ) → map (spelled (front ++ text_of ps)) (tokens_at (length front) ps) ≡ words ps
+slices : (ps : List Piece) (front : List ℕ)
+    → map (spelled (front ++ text_of ps)) (tokens_at (length front) ps) ≡ words ps
 slices [] front = refl
 slices (blank ∷ ps) front =
     let next = front ++ 32 ∷ [] in
-    let same : next ++ text_of ps ≡ front ++ 32 ∷ text_of ps = append_assoc front (32 ∷ []) (text_of ps) in
+    let same : next ++ text_of ps ≡ front ++ 32 ∷ text_of ps =
+    append_assoc front (32 ∷ []) (text_of ps) in
     let len : length next ≡ length front + 1 = omega (arith, length-append front (32 ∷ [])) in
     ap (λ (t : List ℕ). map (spelled t) (tokens_at (length front + 1) ps)) (sym same)
     ∙ ap (λ n. map (spelled (next ++ text_of ps)) (tokens_at n ps)) (sym len)
     ∙ slices ps next
 slices (word kind text ∷ ps) front =
     let next = front ++ text in
-    let same : next ++ text_of ps ≡ front ++ (text ++ text_of ps) = append_assoc front text (text_of ps) in
+    let same : next ++ text_of ps ≡ front ++ (text ++ text_of ps) =
+    append_assoc front text (text_of ps) in
     let len : length next ≡ length front + length text = length-append front text in
     let here : take (length text) (drop (length front) (front ++ (text ++ text_of ps))) ≡ text =
-    ap (take (length text)) (drop-append_seam front (text ++ text_of ps)) ∙ take-append_seam text (text_of ps) in
-    ap (λ (t : List ℕ). (kind, t) ∷ map (spelled (front ++ (text ++ text_of ps))) (tokens_at (length front + length text) ps)) here
-    ∙ ap (λ (t : List ℕ). (kind, text) ∷ map (spelled t) (tokens_at (length front + length text) ps)) (sym same)
+    ap (take (length text)) (drop-append_seam front (text ++ text_of ps))
+    ∙ take-append_seam text (text_of ps) in
+    ap (λ (t : List ℕ). (kind, t)
+    ∷ map (spelled (front ++ (text ++ text_of ps))) (tokens_at (length front + length text) ps))
+    here
+    ∙ ap (λ (t : List ℕ). (kind, text)
+    ∷ map (spelled t) (tokens_at (length front + length text) ps)) (sym same)
     ∙ ap (λ n. (kind, text) ∷ map (spelled (next ++ text_of ps)) (tokens_at n ps)) (sym len)
     ∙ ap (λ ws. (kind, text) ∷ ws) (slices ps next)
 
@@ -102,13 +122,20 @@ apart_words ps apart = record {
 
 -- ---- how they are put together
 
-pub texts_behind : (a b : List Piece) (more : List ℕ) → text_of (a ++ b) ++ more ≡ text_of a ++ (text_of b ++ more)
-texts_behind a b more = ap (λ t. t ++ more) (text_of-append a b) ∙ append_assoc (text_of a) (text_of b) more
+pub texts_behind : (a b : List Piece) (more : List ℕ) → text_of (a ++ b) ++ more ≡ text_of a
+    ++ (text_of b ++ more)
+texts_behind a b more = ap (λ t. t ++ more) (text_of-append a b)
+    ∙ append_assoc (text_of a) (text_of b) more
 
-pub apart_append : (a b : List Piece) (more : List ℕ) → Apart a (text_of b ++ more) → Apart b more → Apart (a ++ b) more
+pub apart_append : (a b : List Piece) (more : List ℕ) → Apart a (text_of b ++ more) → Apart b more
+    → Apart (a ++ b) more
 apart_append [] b more first second = second
-apart_append (p ∷ ps) b more first second =
-    (first.0, ap (may_follow p) (texts_behind ps b more) ∙ first.1, apart_append ps b more first.2 second)
+apart_append (p ∷ ps) b more first second = (
+  first.0,
+  ap (may_follow p) (texts_behind ps b more)
+      ∙ first.1,
+  apart_append ps b more first.2 second,
+)
 
 -- pieces that may stand before whatever cuts a word off
 abbrev pub Good : List Piece → Type 0
@@ -123,13 +150,15 @@ abbrev pub Joins : List Piece → Type 0
 Joins ps = (more : List ℕ) → ends more ≡ true → ends (text_of ps ++ more) ≡ true
 
 pub good_append : (a b : List Piece) → Good a → Good b → Joins b → Good (a ++ b)
-good_append a b first second joins more end = apart_append a b more (first (text_of b ++ more) (joins more end)) (second more end)
+good_append a b first second joins more end =
+    apart_append a b more (first (text_of b ++ more) (joins more end)) (second more end)
 
 pub starts_append : (a b : List Piece) → Starts a → Starts (a ++ b)
 starts_append a b first more = ap ends_blank (texts_behind a b more) ∙ first (text_of b ++ more)
 
 pub joins_append : (a b : List Piece) → Joins a → Joins b → Joins (a ++ b)
-joins_append a b first second more end = ap ends (texts_behind a b more) ∙ first (text_of b ++ more) (second more end)
+joins_append a b first second more end = ap ends (texts_behind a b more)
+    ∙ first (text_of b ++ more) (second more end)
 
 -- ---- pieces in parentheses, and with something between them
 
@@ -141,7 +170,8 @@ pub record Between (ps : List Piece) : Type 0 where
 abbrev pub GoodStart : List Piece → Type 0
 GoodStart ps = Good ps × Starts ps
 
-behind : (between : List Piece) (b : Between between) (xs : List (List Piece)) → AllByRecursion GoodStart xs
+behind : (between : List Piece) (b : Between between) (xs : List (List Piece))
+    → AllByRecursion GoodStart xs
     → Good (flat_map (λ y. between ++ y) xs) × Joins (flat_map (λ y. between ++ y) xs)
 behind between b [] all = ((λ more end. tt), (λ more end. end))
 behind between b (y ∷ ys) all =
@@ -149,21 +179,25 @@ behind between b (y ∷ ys) all =
     let later = behind between b ys all.1 in (
       (λ more end.
           apart_append (between ++ y) rest more
-          (apart_append between y (text_of rest ++ more) (b.apart (text_of y ++ (text_of rest ++ more)) (all.0.1 (text_of rest ++ more)))
+          (apart_append between y (text_of rest ++ more)
+          (b.apart (text_of y ++ (text_of rest ++ more)) (all.0.1 (text_of rest ++ more)))
           (all.0.0 (text_of rest ++ more) (later.1 more end)))
           (later.0 more end)),
       (λ more end.
-          ap ends (texts_behind (between ++ y) rest more ∙ texts_behind between y (text_of rest ++ more))
+          ap ends (texts_behind (between ++ y) rest more
+          ∙ texts_behind between y (text_of rest ++ more))
           ∙ b.cuts (text_of y ++ (text_of rest ++ more))),
     )
 
 -- the first may be empty or begin with anything
-pub good_parted : (between : List Piece) → Between between → (x : List Piece) (xs : List (List Piece)) → Good x → AllByRecursion GoodStart xs
+pub good_parted : (between : List Piece) → Between between
+    → (x : List Piece) (xs : List (List Piece)) → Good x → AllByRecursion GoodStart xs
     → Good (parted between (x ∷ xs))
 good_parted between b x xs first all =
     let later = behind between b xs all in
     good_append x (flat_map (λ y. between ++ y) xs) first later.0 later.1
 
-pub good_all : (between : List Piece) → Between between → (xs : List (List Piece)) → AllByRecursion GoodStart xs → Good (parted between xs)
+pub good_all : (between : List Piece) → Between between → (xs : List (List Piece))
+    → AllByRecursion GoodStart xs → Good (parted between xs)
 good_all between b [] all more end = tt
 good_all between b (x ∷ xs) all more end = good_parted between b x xs all.0.0 all.1 more end

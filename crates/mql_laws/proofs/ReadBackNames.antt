@@ -69,6 +69,7 @@ known_again (OfPoints f) = known_function f
 pub call_name_again : (name : List ℕ) → call_name (call_name name) ≡ call_name name
 call_name_again name = go (known_as name) refl
   where
-    go : (o : Option Known) → known_as name ≡ o → call_name (option_map_or name_of o name) ≡ option_map_or name_of o name
+    go : (o : Option Known) → known_as name ≡ o
+        → call_name (option_map_or name_of o name) ≡ option_map_or name_of o name
     go None is = ap (λ p. option_map_or name_of p name) is
     go (Some k) is = ap (λ p. option_map_or name_of p (name_of k)) (known_again k)

@@ -29,14 +29,21 @@ number_says z is = ap (λ r. or_zero (or_none r)) (printed_read z is)
 -- ---- windows and offsets
 
 -- what a span's word says, where it has a sign and where it has none
-ahead_word : (span : Span) → IsAhead span → (is_negative span ≡ false) × (ahead (length_of (span_text span)) ≡ span)
-ahead_word span is = (ap is_negative is.2 ∙ ahead_sign is.0, ap (λ s. ahead (length_of (span_text s))) is.2 ∙ ap ahead (ahead_says is.0 is.1) ∙ sym is.2)
+ahead_word : (span : Span) → IsAhead span → (is_negative span ≡ false)
+    × (ahead (length_of (span_text span)) ≡ span)
+ahead_word span is = (
+  ap is_negative is.2 ∙ ahead_sign is.0,
+  ap (λ s. ahead (length_of (span_text s))) is.2
+      ∙ ap ahead (ahead_says is.0 is.1) ∙ sym is.2,
+)
 
 back_word : (span : Span) → IsBack span → back (length_of (span_text span)) ≡ span
-back_word span is = ap (λ s. back (length_of (span_text s))) is.2 ∙ ap back (back_says is.0 is.1) ∙ sym is.2
+back_word span is = ap (λ s. back (length_of (span_text s))) is.2 ∙ ap back (back_says is.0 is.1)
+    ∙ sym is.2
 
 -- a span that could go back, without a sign
-back_nothing : (span : Span) → IsBack span → is_negative span ≡ false → ahead (length_of (span_text span)) ≡ span
+back_nothing : (span : Span) → IsBack span → is_negative span ≡ false
+    → ahead (length_of (span_text span)) ≡ span
 back_nothing span is apart =
     let none = back_sign is.0 (ap is_negative (sym is.2) ∙ apart) in
     ap (λ s. ahead (length_of (span_text s))) is.2
@@ -48,47 +55,70 @@ record OffsetRead (span : Span) (ws rest : List Word) : Type 0 where
   reads : Offset 0 at ws rest span
 
 module _ (span : Span) where
-  signless : IsAhead span ⊎ IsBack span → is_negative span ≡ false → ahead (length_of (span_text span)) ≡ span
+  signless : IsAhead span ⊎ IsBack span → is_negative span ≡ false
+      → ahead (length_of (span_text span)) ≡ span
   signless is none = ⊎_elim (λ a. (ahead_word span a).1) (λ b. back_nothing span b none) is
 
-  signed : IsAhead span ⊎ IsBack span → is_negative span ≡ true → back (length_of (span_text span)) ≡ span
-  signed is some = ⊎_elim (λ a. absurd (cc (some, (ahead_word span a).0))) (λ b. back_word span b) is
+  signed : IsAhead span ⊎ IsBack span → is_negative span ≡ true
+      → back (length_of (span_text span)) ≡ span
+  signed is some =
+      ⊎_elim (λ a. absurd (cc (some, (ahead_word span a).0))) (λ b. back_word span b) is
 
-  behind_offset : (at : ℕ) → IsAhead span ⊎ IsBack span → (b : Bool) → is_negative span ≡ b → (more rest : List Word)
+  behind_offset : (at : ℕ) → IsAhead span ⊎ IsBack span → (b : Bool) → is_negative span ≡ b
+      → (more rest : List Word)
       → Stand (when b (mark (codes "-") ∷ []) ++ word Duration (span_text span) ∷ []) more rest
       → OffsetRead span (word_at at Name (codes "offset") ∷ more) rest
   behind_offset at is true some more rest (a_word m (a_word d no_piece)) = record {
     at = at;
-    reads = subst (Offset 0 at (word_at at Name (codes "offset") ∷ word_at m Mark (codes "-") ∷ word_at d Duration (span_text span) ∷ rest) rest) (signed is some)
-        (a_back (word_at at Name (codes "offset")) (word_at m Mark (codes "-")) (word_at d Duration (span_text span)) (is_offset at) (is_minus m) refl (outside d));
+    reads = subst (Offset 0 at
+        (word_at at Name (codes "offset") ∷ word_at m Mark (codes "-")
+        ∷ word_at d Duration (span_text span) ∷ rest) rest) (signed is some)
+        (a_back (word_at at Name (codes "offset")) (word_at m Mark (codes "-"))
+        (word_at d Duration (span_text span)) (is_offset at) (is_minus m) refl (outside d));
   }
   behind_offset at is false none more rest (a_word d no_piece) = record {
     at = at;
-    reads = subst (Offset 0 at (word_at at Name (codes "offset") ∷ word_at d Duration (span_text span) ∷ rest) rest) (signless is none)
-        (an_offset (word_at at Name (codes "offset")) (word_at d Duration (span_text span)) (is_offset at) refl (outside d));
+    reads = subst (Offset 0 at
+        (word_at at Name (codes "offset") ∷ word_at d Duration (span_text span) ∷ rest) rest)
+        (signless is none)
+        (an_offset (word_at at Name (codes "offset")) (word_at d Duration (span_text span))
+        (is_offset at) refl (outside d));
   }
 
-  offset_back : IsAhead span ⊎ IsBack span → (ws rest : List Word) → Stand (offset_pieces (Some span)) ws rest → OffsetRead span ws rest
-  offset_back is ws rest (a_blank (a_word {ws = more} at (a_blank all))) = behind_offset at is (is_negative span) refl more rest all
+  offset_back : IsAhead span ⊎ IsBack span → (ws rest : List Word)
+      → Stand (offset_pieces (Some span)) ws rest → OffsetRead span ws rest
+  offset_back is ws rest (a_blank (a_word {ws = more} at (a_blank all))) =
+      behind_offset at is (is_negative span) refl more rest all
 
-  in_squares : (at : ℕ) (offset : Option Span) → IsAhead span → (rest : List Word) → (b : Bool) → is_negative span ≡ b → (more mid : List Word)
-      → Stand ((when b (mark (codes "-") ∷ []) ++ word Duration (span_text span) ∷ []) ++ mark (codes "]") ∷ []) more mid → OffsetIfAny 0 mid rest offset
+  in_squares : (at : ℕ) (offset : Option Span) → IsAhead span → (rest : List Word) → (b : Bool)
+      → is_negative span ≡ b → (more mid : List Word)
+      → Stand ((when b (mark (codes "-") ∷ []) ++ word Duration (span_text span) ∷ [])
+      ++ mark (codes "]") ∷ []) more mid → OffsetIfAny 0 mid rest offset
       → Postfix 0 at (word_at at Mark (codes "[") ∷ more) rest (Some span) offset
-  in_squares at offset is rest true some more mid all behind = absurd (cc (some, (ahead_word span is).0))
+  in_squares at offset is rest true some more mid all behind =
+      absurd (cc (some, (ahead_word span is).0))
   in_squares at offset is rest false none more mid (a_word d (a_word e no_piece)) behind =
-      subst (λ s. Postfix 0 at (word_at at Mark (codes "[") ∷ word_at d Duration (span_text span) ∷ word_at e Mark (codes "]") ∷ mid) rest (Some s) offset) (ahead_word span is).1
-      (windowed (word_at at Mark (codes "[")) (word_at d Duration (span_text span)) (word_at e Mark (codes "]")) (is_open_square at) refl (outside d) (is_close_square e) behind)
+      subst (λ s.
+      Postfix 0 at
+      (word_at at Mark (codes "[") ∷ word_at d Duration (span_text span)
+      ∷ word_at e Mark (codes "]") ∷ mid) rest (Some s) offset) (ahead_word span is).1
+      (windowed (word_at at Mark (codes "[")) (word_at d Duration (span_text span))
+      (word_at e Mark (codes "]")) (is_open_square at) refl (outside d) (is_close_square e)
+      behind)
 
   -- a window with whatever stands after it
-  window_back : (offset : Option Span) → IsAhead span → (ws mid rest : List Word) → Stand (window_pieces (Some span)) ws mid
+  window_back : (offset : Option Span) → IsAhead span → (ws mid rest : List Word)
+      → Stand (window_pieces (Some span)) ws mid
       → OffsetIfAny 0 mid rest offset → (at : ℕ) × Postfix 0 at ws rest (Some span) offset
-  window_back offset is ws mid rest (a_word {ws = more} at all) behind = (at, in_squares at offset is rest (is_negative span) refl more mid all behind)
+  window_back offset is ws mid rest (a_word {ws = more} at all) behind =
+      (at, in_squares at offset is rest (is_negative span) refl more mid all behind)
 
 pub record PostfixRead (window offset : Option Span) (ws rest : List Word) : Type 0 where
   pub at : ℕ
   pub reads : Postfix 0 at ws rest window offset
 
-pub postfix_back : (window offset : Option Span) → IsRange window offset → (ws mid rest : List Word) → Stand (window_pieces window) ws mid
+pub postfix_back : (window offset : Option Span) → IsRange window offset → (ws mid rest : List Word)
+    → Stand (window_pieces window) ws mid
     → Stand (offset_pieces offset) mid rest → PostfixRead window offset ws rest
 postfix_back None None is ws mid rest first second = absurd is
 postfix_back None (Some span) is ws mid rest no_piece second =

@@ -32,7 +32,8 @@ word_at at kind text = record { kind = kind; text = text; at = at }
 pub data Stand : List Piece → List Word → List Word → Type 0 where
   no_piece : {rest : List Word} → Stand [] rest rest
   a_blank : {ps : List Piece} {ws rest : List Word} → Stand ps ws rest → Stand (blank ∷ ps) ws rest
-  a_word : {kind : TokenKind} {text : List ℕ} {ps : List Piece} {ws rest : List Word} (at : ℕ) → Stand ps ws rest
+  a_word : {kind : TokenKind} {text : List ℕ} {ps : List Piece} {ws rest : List Word} (at : ℕ)
+      → Stand ps ws rest
       → Stand (word kind text ∷ ps) (word_at at kind text ∷ ws) rest
 
 -- the pieces of one list and then those of another
@@ -57,15 +58,19 @@ first_is {A} x y xs ys is = ap (λ (l : List A). elim l [ [] ↦ x | z ∷ zs �
 rest_is : {A : Type 0} (x y : A) (xs ys : List A) → x ∷ xs ≡ y ∷ ys → xs ≡ ys
 rest_is {A} x y xs ys is = ap (λ (l : List A). elim l [ [] ↦ xs | z ∷ zs ↦ zs ]) is
 
-pub stands : (text : List ℕ) (ps : List Piece) (tokens : List Token) → map (spelled text) tokens ≡ words ps → Stand ps (words_of text tokens) []
+pub stands : (text : List ℕ) (ps : List Piece) (tokens : List Token)
+    → map (spelled text) tokens ≡ words ps → Stand ps (words_of text tokens) []
 stands text [] [] is = no_piece
 stands text [] (t ∷ ts) is = absurd (cc is)
 stands text (blank ∷ ps) tokens is = a_blank (stands text ps tokens is)
 stands text (word kind spelling ∷ ps) [] is = absurd (cc is)
 stands text (word kind spelling ∷ ps) (t ∷ ts) is =
     let here = first_is (spelled text t) (kind, spelling) (map (spelled text) ts) (words ps) is in
-    let later = stands text ps ts (rest_is (spelled text t) (kind, spelling) (map (spelled text) ts) (words ps) is) in
-    subst (λ (p : TokenKind × List ℕ). Stand (word p.0 p.1 ∷ ps) (words_of text (t ∷ ts)) []) here (a_word t.at later)
+    let later =
+    stands text ps ts
+    (rest_is (spelled text t) (kind, spelling) (map (spelled text) ts) (words ps) is) in
+    subst (λ (p : TokenKind × List ℕ). Stand (word p.0 p.1 ∷ ps) (words_of text (t ∷ ts)) []) here
+    (a_word t.at later)
 
 -- ---- classes of words
 
@@ -142,7 +147,8 @@ module _ (at : ℕ) where
   unfolding class_of_name
   is_right = refl
 
-  is_group : (by : Bool) → Is (Class.Grouping by) (word_at at Name (if by then codes "by" else codes "without"))
+  is_group : (by : Bool)
+      → Is (Class.Grouping by) (word_at at Name (if by then codes "by" else codes "without"))
   unfolding class_of_name
   is_group true = refl
   is_group false = refl
@@ -150,9 +156,11 @@ module _ (at : ℕ) where
 -- ---- a word of a class, and then the pieces after it
 
 pub data Led (class : Class) (ps : List Piece) (rest : List Word) : List Word → Type 0 where
-  led : {more : List Word} (w : Word) → Is class w → Stand ps more rest → Led class ps rest (w ∷ more)
+  led : {more : List Word} (w : Word) → Is class w → Stand ps more rest
+      → Led class ps rest (w ∷ more)
 
-pub is_op : (op : Op) (ps : List Piece) (ws rest : List Word) → Stand (op_piece op ∷ ps) ws rest → Led (Class.Operator op) ps rest ws
+pub is_op : (op : Op) (ps : List Piece) (ws rest : List Word) → Stand (op_piece op ∷ ps) ws rest
+    → Led (Class.Operator op) ps rest ws
 unfolding class_of_name class_of_mark
 is_op Default ps ws rest (a_word at more) = led (word_at at Name (codes "default")) refl more
 is_op If ps ws rest (a_word at more) = led (word_at at Name (codes "if")) refl more
@@ -176,23 +184,32 @@ is_op Rem ps ws rest (a_word at more) = led (word_at at Mark (codes "%")) refl m
 
 -- the names after the first, up to the parenthesis
 abbrev more_names : List (List ℕ) → List Piece
-more_names names = flat_map (λ y. (mark (codes ",") ∷ []) ++ y) (map (λ name. named name ∷ []) names)
+more_names names =
+    flat_map (λ y. (mark (codes ",") ∷ []) ++ y) (map (λ name. named name ∷ []) names)
 
-names_behind : (name : List ℕ) (names : List (List ℕ)) (ws rest : List Word) → Stand (named name ∷ (more_names names ++ mark (codes ")") ∷ [])) ws rest
+names_behind : (name : List ℕ) (names : List (List ℕ)) (ws rest : List Word)
+    → Stand (named name ∷ (more_names names ++ mark (codes ")") ∷ [])) ws rest
     → Names ws rest (name ∷ names)
-names_behind name [] ws rest (a_word at (a_word end no_piece)) = last_name (word_at at Name name) (word_at end Mark (codes ")")) refl (is_close end)
+names_behind name [] ws rest (a_word at (a_word end no_piece)) =
+    last_name (word_at at Name name) (word_at end Mark (codes ")")) refl (is_close end)
 names_behind name (next ∷ names) ws rest (a_word at (a_word {ws = more} comma behind)) =
-    next_name (word_at at Name name) (word_at comma Mark (codes ",")) refl (is_comma comma) (names_behind next names more rest behind)
+    next_name (word_at at Name name) (word_at comma Mark (codes ",")) refl (is_comma comma)
+    (names_behind next names more rest behind)
 
 -- with the parenthesis in front
-pub names_back : (names : List (List ℕ)) (ws rest : List Word) → Stand (names_pieces names) ws rest → ListedNames ws rest names
-names_back [] ws rest (a_word at (a_word end no_piece)) = in_parens (word_at at Mark (codes "(")) (is_open at) (no_names (word_at end Mark (codes ")")) (is_close end))
-names_back (name ∷ names) ws rest (a_word {ws = more} at behind) = in_parens (word_at at Mark (codes "(")) (is_open at) (names_behind name names more rest behind)
+pub names_back : (names : List (List ℕ)) (ws rest : List Word) → Stand (names_pieces names) ws rest
+    → ListedNames ws rest names
+names_back [] ws rest (a_word at (a_word end no_piece)) =
+    in_parens (word_at at Mark (codes "(")) (is_open at)
+    (no_names (word_at end Mark (codes ")")) (is_close end))
+names_back (name ∷ names) ws rest (a_word {ws = more} at behind) =
+    in_parens (word_at at Mark (codes "(")) (is_open at) (names_behind name names more rest behind)
 
 -- ---- parameters
 
 abbrev more_params : List Param → List Piece
-more_params params = flat_map (λ y. (mark (codes ",") ∷ []) ++ y) (map (λ p. named p.name ∷ []) params)
+more_params params =
+    flat_map (λ y. (mark (codes ",") ∷ []) ++ y) (map (λ p. named p.name ∷ []) params)
 
 abbrev AreFree : List Param → Type 0
 AreFree = AllByRecursion (λ p. IsFree p.name)
@@ -203,7 +220,8 @@ record SomeRead (params : List Param) (ws rest : List Word) : Type 0 where
   reads : SomeParams ws rest found
 
 params_behind : (p : Param) (ps : List Param) → AreFree (p ∷ ps) → (ws rest : List Word)
-    → Stand (named p.name ∷ (more_params ps ++ mark (codes ")") ∷ [])) ws rest → SomeRead (p ∷ ps) ws rest
+    → Stand (named p.name ∷ (more_params ps ++ mark (codes ")") ∷ [])) ws rest
+    → SomeRead (p ∷ ps) ws rest
 params_behind p [] free ws rest (a_word at (a_word end no_piece)) = record {
   found = record { at = at; name = p.name } ∷ [];
   same = refl;
@@ -214,7 +232,8 @@ params_behind p (q ∷ ps) free ws rest (a_word at (a_word {ws = more} comma beh
     record {
       found = record { at = at; name = p.name } ∷ later.found;
       same = ap (λ (l : List Param). placeless_param p ∷ l) later.same;
-      reads = next_param (word_at at Name p.name) (word_at comma Mark (codes ",")) free.0 (is_comma comma) later.reads;
+      reads = next_param (word_at at Name p.name) (word_at comma Mark (codes ",")) free.0
+          (is_comma comma) later.reads;
     }
 
 pub record ParamsRead (params : List Param) (ws rest : List Word) : Type 0 where
@@ -222,86 +241,117 @@ pub record ParamsRead (params : List Param) (ws rest : List Word) : Type 0 where
   pub same : map placeless_param found ≡ map placeless_param params
   pub reads : ParamsIfAny ws rest found
 
-pub params_back : (params : List Param) → AreFree params → (ws rest : List Word) → Stand (params_pieces params) ws rest → ParamsRead params ws rest
+pub params_back : (params : List Param) → AreFree params → (ws rest : List Word)
+    → Stand (params_pieces params) ws rest → ParamsRead params ws rest
 params_back [] free ws rest no_piece = record { found = []; same = refl; reads = no_params }
 params_back (p ∷ ps) free ws rest (a_word {ws = more} at behind) =
     let some = params_behind p ps free more rest behind in
-    record { found = some.found; same = some.same; reads = some_params (word_at at Mark (codes "(")) (is_open at) (the_params some.reads) }
+    record {
+      found = some.found;
+      same = some.same;
+      reads = some_params (word_at at Mark (codes "(")) (is_open at) (the_params some.reads);
+    }
 
 -- ---- groups
 
 -- a blank at the end is no word
-without_blank : (P : List Word → Type 0) (mid rest : List Word) → Stand (blank ∷ []) mid rest → P mid → P rest
+without_blank : (P : List Word → Type 0) (mid rest : List Word) → Stand (blank ∷ []) mid rest
+    → P mid → P rest
 without_blank P mid rest (a_blank no_piece) holds = holds
 
-group_back : (group : Group) (ws rest : List Word) → Stand (group_pieces group) ws rest → GroupIfAny ws rest (Some group)
+group_back : (group : Group) (ws rest : List Word) → Stand (group_pieces group) ws rest
+    → GroupIfAny ws rest (Some group)
 group_back group ws rest (a_word {ws = more} at (a_blank names)) =
-    a_group (word_at at Name (if group.by then codes "by" else codes "without")) group.by (is_group at group.by) (names_back group.names more rest names)
+    a_group (word_at at Name (if group.by then codes "by" else codes "without")) group.by
+    (is_group at group.by) (names_back group.names more rest names)
 
-pub before_back : (before after : Option Group) (ws rest : List Word) → Stand (before_pieces before after) ws rest → GroupIfAny ws rest (first_group before after)
+pub before_back : (before after : Option Group) (ws rest : List Word)
+    → Stand (before_pieces before after) ws rest → GroupIfAny ws rest (first_group before after)
 before_back (Some group) (Some other) ws rest (a_blank all) =
     let s = split (group_pieces group) (blank ∷ []) ws rest all in
-    without_blank (λ end. GroupIfAny ws end (Some group)) s.mid rest s.behind (group_back group ws s.mid s.front)
+    without_blank (λ end. GroupIfAny ws end (Some group)) s.mid rest s.behind
+    (group_back group ws s.mid s.front)
 before_back None None ws rest no_piece = no_group
 before_back None (Some other) ws rest no_piece = no_group
 before_back (Some group) None ws rest no_piece = no_group
 
-pub after_back : (before after : Option Group) (ws rest : List Word) → Stand (after_pieces before after) ws rest → GroupIfAny ws rest (last_group before after)
+pub after_back : (before after : Option Group) (ws rest : List Word)
+    → Stand (after_pieces before after) ws rest → GroupIfAny ws rest (last_group before after)
 after_back None None ws rest no_piece = no_group
 after_back (Some group) None ws rest (a_blank all) = group_back group ws rest all
 after_back None (Some group) ws rest (a_blank all) = group_back group ws rest all
 after_back (Some other) (Some group) ws rest (a_blank all) = group_back group ws rest all
 
-pub keep_back : (keep : Bool) (ws rest : List Word) → Stand (keep_pieces keep) ws rest → KeepIfAny ws rest keep
-keep_back true ws rest (a_blank (a_word at no_piece)) = a_keep (word_at at Name (codes "keep_metric_names")) (is_keep at)
+pub keep_back : (keep : Bool) (ws rest : List Word) → Stand (keep_pieces keep) ws rest
+    → KeepIfAny ws rest keep
+keep_back true ws rest (a_blank (a_word at no_piece)) =
+    a_keep (word_at at Name (codes "keep_metric_names")) (is_keep at)
 keep_back false ws rest no_piece = no_keep
 
 -- ---- operators
 
-truth_back : (op : Op) (truth : Bool) → (truth ≡ true → is_comparison op ≡ true) → (ws rest : List Word) → Stand (truth_pieces truth) ws rest
+truth_back : (op : Op) (truth : Bool) → (truth ≡ true → is_comparison op ≡ true)
+    → (ws rest : List Word) → Stand (truth_pieces truth) ws rest
     → TruthIfAny op ws rest truth
-truth_back op true compares ws rest (a_blank (a_word at no_piece)) = a_truth (word_at at Name (codes "bool")) (is_truth at) (compares refl)
+truth_back op true compares ws rest (a_blank (a_word at no_piece)) =
+    a_truth (word_at at Name (codes "bool")) (is_truth at) (compares refl)
 truth_back op false compares ws rest no_piece = no_truth
 
-many_back : (many : Many) (extra : List (List ℕ)) → IsMany many extra → (ws rest : List Word) → Stand (many_pieces many extra) ws rest
+many_back : (many : Many) (extra : List (List ℕ)) → IsMany many extra → (ws rest : List Word)
+    → Stand (many_pieces many extra) ws rest
     → ManyIfAny ws rest many extra
 many_back One extra is ws rest no_piece = subst (λ e. ManyIfAny rest rest One e) (sym is) no_many
 many_back Left extra is ws rest (a_blank (a_word {ws = more} at names)) =
-    many_names (word_at at Name (codes "group_left")) (is_left at) (names_back extra more rest names)
+    many_names (word_at at Name (codes "group_left")) (is_left at)
+    (names_back extra more rest names)
 many_back Right extra is ws rest (a_blank (a_word {ws = more} at names)) =
-    many_names (word_at at Name (codes "group_right")) (is_right at) (names_back extra more rest names)
+    many_names (word_at at Name (codes "group_right")) (is_right at)
+    (names_back extra more rest names)
 
-no_match : (names : List (List ℕ)) (many : Many) (extra : List (List ℕ)) → names ≡ [] → many ≡ One → extra ≡ []
-    → (ws rest : List Word) → Stand (many_pieces many extra) ws rest → Mods ws rest (matching All names many extra)
+no_match : (names : List (List ℕ)) (many : Many) (extra : List (List ℕ)) → names ≡ [] → many ≡ One
+    → extra ≡ []
+    → (ws rest : List Word) → Stand (many_pieces many extra) ws rest
+    → Mods ws rest (matching All names many extra)
 no_match names One extra none one apart ws rest no_piece =
-    subst (λ n. Mods rest rest (matching All n One extra)) (sym none) (subst (λ e. Mods rest rest (matching All [] One e)) (sym apart) no_mods)
+    subst (λ n. Mods rest rest (matching All n One extra)) (sym none)
+    (subst (λ e. Mods rest rest (matching All [] One e)) (sym apart) no_mods)
 no_match names Left extra none one apart ws rest all = absurd (cc one)
 no_match names Right extra none one apart ws rest all = absurd (cc one)
 
 pub mods_back : (kind : MatchKind) (names : List (List ℕ)) (many : Many) (extra : List (List ℕ)) → IsMatching kind names many extra
-    → (ws rest : List Word) → Stand (kind_pieces kind names ++ many_pieces many extra) ws rest → Mods ws rest (matching kind names many extra)
+    → (ws rest : List Word) → Stand (kind_pieces kind names ++ many_pieces many extra) ws rest
+    → Mods ws rest (matching kind names many extra)
 mods_back All names many extra is ws rest all = no_match names many extra is.0 is.1 is.2 ws rest all
 mods_back On names many extra is ws rest (a_blank (a_word {ws = more} at all)) =
     let s = split (names_pieces names) (many_pieces many extra) more rest all in
-    some_mods (word_at at Name (codes "on")) (is_on at) (names_back names more s.mid s.front) (many_back many extra is s.mid rest s.behind)
+    some_mods (word_at at Name (codes "on")) (is_on at) (names_back names more s.mid s.front)
+    (many_back many extra is s.mid rest s.behind)
 mods_back Ignoring names many extra is ws rest (a_blank (a_word {ws = more} at all)) =
     let s = split (names_pieces names) (many_pieces many extra) more rest all in
-    some_mods (word_at at Name (codes "ignoring")) (is_ignoring at) (names_back names more s.mid s.front) (many_back many extra is s.mid rest s.behind)
+    some_mods (word_at at Name (codes "ignoring")) (is_ignoring at)
+    (names_back names more s.mid s.front) (many_back many extra is s.mid rest s.behind)
 
 -- an operator with what stands after it
-pub data OperatorRead (op : Op) (truth : Bool) (m : Matching) (rest : List Word) : List Word → Type 0 where
-  operator_read : {here mid : List Word} (w : Word) → Is (Class.Operator op) w → TruthIfAny op here mid truth → Mods mid rest m
+pub data OperatorRead (op : Op) (truth : Bool) (m : Matching) (rest : List Word) : List Word
+    → Type 0 where
+  operator_read : {here mid : List Word} (w : Word) → Is (Class.Operator op) w
+      → TruthIfAny op here mid truth → Mods mid rest m
       → OperatorRead op truth m rest (w ∷ here)
 
 module _ (op : Op) (truth : Bool) (m : Matching) (compares : truth ≡ true → is_comparison op ≡ true)
     (is : IsMatching m.kind m.names m.many m.extra) where
-  led_on : (ws rest : List Word) → Led (Class.Operator op) ((truth_pieces truth ++ matching_pieces m) ++ blank ∷ []) rest ws → OperatorRead op truth m rest ws
+  led_on : (ws rest : List Word)
+      → Led (Class.Operator op) ((truth_pieces truth ++ matching_pieces m) ++ blank ∷ []) rest ws
+      → OperatorRead op truth m rest ws
   led_on ws rest (led {more = more} w class all) =
       let s = split (truth_pieces truth ++ matching_pieces m) (blank ∷ []) more rest all in
       let parts = split (truth_pieces truth) (matching_pieces m) more s.mid s.front in
       operator_read w class (truth_back op truth compares more parts.mid parts.front)
-      (without_blank (λ end. Mods parts.mid end m) s.mid rest s.behind (mods_back m.kind m.names m.many m.extra is parts.mid s.mid parts.behind))
+      (without_blank (λ end. Mods parts.mid end m) s.mid rest s.behind
+      (mods_back m.kind m.names m.many m.extra is parts.mid s.mid parts.behind))
 
-  pub operator_back : (ws rest : List Word) → Stand (operator_pieces op truth m) ws rest → OperatorRead op truth m rest ws
+  pub operator_back : (ws rest : List Word) → Stand (operator_pieces op truth m) ws rest
+      → OperatorRead op truth m rest ws
   operator_back ws rest (a_blank all) =
-      led_on ws rest (is_op op ((truth_pieces truth ++ matching_pieces m) ++ blank ∷ []) ws rest all)
+      led_on ws rest
+      (is_op op ((truth_pieces truth ++ matching_pieces m) ++ blank ∷ []) ws rest all)

@@ -33,12 +33,16 @@ whole_of : (ms : ℕ) (unit : UnitOf) → is_whole ms unit ≡ true → ms % uni
 whole_of ms unit is = eqb-true (ms % unit_ms unit) 0 is
 
 abbrev chosen : (d h m s : Bool) → UnitOf
-chosen d h m s = if d then Day else if h then Hour else if m then Minute else if s then Second else Millisecond
+chosen d h m s = if d then Day else if h then Hour else if m then Minute else if s then Second
+    else Millisecond
 
 parted_whole : (ms : ℕ) → (ms / unit_ms (greatest_unit ms)) * unit_ms (greatest_unit ms) ≡ ms
-parted_whole ms = go (is_whole ms Day) (is_whole ms Hour) (is_whole ms Minute) (is_whole ms Second) refl refl refl refl
+parted_whole ms =
+    go (is_whole ms Day) (is_whole ms Hour) (is_whole ms Minute) (is_whole ms Second) refl refl refl
+    refl
   where
-    go : (d h m s : Bool) → is_whole ms Day ≡ d → is_whole ms Hour ≡ h → is_whole ms Minute ≡ m → is_whole ms Second ≡ s
+    go : (d h m s : Bool) → is_whole ms Day ≡ d → is_whole ms Hour ≡ h → is_whole ms Minute ≡ m
+        → is_whole ms Second ≡ s
         → (ms / unit_ms (chosen d h m s)) * unit_ms (chosen d h m s) ≡ ms
     go true h m s p q r t = let z : ms % 86400000 ≡ 0 = whole_of ms Day p in omega arith
     go false true m s p q r t = let z : ms % 3600000 ≡ 0 = whole_of ms Hour q in omega arith

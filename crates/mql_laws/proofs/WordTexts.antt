@@ -68,12 +68,14 @@ call_name_is name is = go (known_as name)
 
 -- ---- marks
 
-one_at : (n : ℕ) (words : List (List ℕ)) (text : List ℕ) → slice_get words n ≡ Some text → IsOneOf words text
+one_at : (n : ℕ) (words : List (List ℕ)) (text : List ℕ) → slice_get words n ≡ Some text
+    → IsOneOf words text
 one_at n [] text is = absurd (cc is)
 one_at zero (first ∷ words) text is = inl (cc is)
 one_at (suc n) (first ∷ words) text is = inr (one_at n words text is)
 
-pub mark_is : (n : ℕ) (text : List ℕ) → slice_get marks n ≡ Some text → 0 < length text → IsPiece (word Mark text)
+pub mark_is : (n : ℕ) (text : List ℕ) → slice_get marks n ≡ Some text → 0 < length text
+    → IsPiece (word Mark text)
 mark_is n text is some = (some, one_at n marks text is)
 
 pub op_is : (op : Op) → IsPiece (op_piece op)
@@ -97,11 +99,14 @@ op_is Rem = mark_is 20 (codes "%") refl (omega arith)
 
 -- ---- strings
 
-inner_escaped : (b : ℕ) (rest : List ℕ) → is_inner 34 false (escaped_byte b ++ rest) ≡ is_inner 34 false rest
+inner_escaped : (b : ℕ) (rest : List ℕ)
+    → is_inner 34 false (escaped_byte b ++ rest) ≡ is_inner 34 false rest
 inner_escaped b rest = go (b == 92) (b == 34) (b == 10) refl refl
   where
     go : (x y z : Bool) → (b == 92) ≡ x → (b == 34) ≡ y
-        → is_inner 34 false ((if x then codes "\\\\" else if y then codes "\\\"" else if z then codes "\\n" else b ∷ []) ++ rest) ≡ is_inner 34 false rest
+        → is_inner 34 false
+        ((if x then codes "\\\\" else if y then codes "\\\"" else if z then codes "\\n" else b ∷ [])
+        ++ rest) ≡ is_inner 34 false rest
     go true y z p q = refl
     go false true z p q = refl
     go false false true p q = refl
@@ -138,7 +143,9 @@ record IsDecimal (n : ℕ) : Type 0 where
   pub some : 0 < length (decimal n)
 
 decimal_is : (n : ℕ) → n < 10 ^ 64 → IsDecimal n
-decimal_is n few = let is = decimal_is_IsNumeral_wide n few in record { digits = are_digits (decimal n) is.0.1; some = is.0.0 }
+decimal_is n few = let is =
+    decimal_is_IsNumeral_wide n
+    few in record { digits = are_digits (decimal n) is.0.1; some = is.0.0 }
 
 small : (n : ℕ) → n < 2 ^ 64 → n < 10 ^ 64
 small n few = omega arith
@@ -146,7 +153,14 @@ small n few = omega arith
 count_is : (n : ℕ) (unit : List ℕ) → n < 10 ^ 64 → IsOneOf units unit → IsCount (decimal n ++ unit)
 count_is n unit few is =
     let d = decimal_is n few in
-    record { digits = decimal n; unit = unit; parts = refl; some = d.some; are = d.digits; a_unit = is }
+    record {
+      digits = decimal n;
+      unit = unit;
+      parts = refl;
+      some = d.some;
+      are = d.digits;
+      a_unit = is;
+    }
 
 unit_is : (unit : UnitOf) → IsOneOf units (unit_text unit)
 unit_is Day = one_at 4 units (codes "d") refl
@@ -159,10 +173,15 @@ whole_of : (ms : ℕ) (unit : UnitOf) → is_whole ms unit ≡ true → ms % uni
 whole_of ms unit is = eqb-true (ms % unit_ms unit) 0 is
 
 some_units : (ms : ℕ) → 0 < ms → 0 < ms / unit_ms (greatest_unit ms)
-some_units ms some = go (is_whole ms Day) (is_whole ms Hour) (is_whole ms Minute) (is_whole ms Second) refl refl refl refl
+some_units ms some =
+    go (is_whole ms Day) (is_whole ms Hour) (is_whole ms Minute) (is_whole ms Second) refl refl refl
+    refl
   where
-    go : (d h m s : Bool) → is_whole ms Day ≡ d → is_whole ms Hour ≡ h → is_whole ms Minute ≡ m → is_whole ms Second ≡ s
-        → 0 < ms / unit_ms (if d then Day else if h then Hour else if m then Minute else if s then Second else Millisecond)
+    go : (d h m s : Bool) → is_whole ms Day ≡ d → is_whole ms Hour ≡ h → is_whole ms Minute ≡ m
+        → is_whole ms Second ≡ s
+        → 0 < ms / unit_ms
+        (if d then Day else if h then Hour else if m then Minute else if s then Second
+        else Millisecond)
     go true h m s p q r t = let z : ms % 86400000 ≡ 0 = whole_of ms Day p in omega arith
     go false true m s p q r t = let z : ms % 3600000 ≡ 0 = whole_of ms Hour q in omega arith
     go false false true s p q r t = let z : ms % 60000 ≡ 0 = whole_of ms Minute r in omega arith
@@ -177,7 +196,8 @@ few_units ms Second few = omega arith
 few_units ms Millisecond few = omega arith
 
 some_count : (n : ℕ) (unit : List ℕ) → 0 < n → count_text n unit ≡ decimal n ++ unit
-some_count n unit some = let differs : (n == 0) ≡ false = grind (arith, nat_tests) in ap (λ b. if b then [] else decimal n ++ unit) differs
+some_count n unit some = let differs : (n == 0) ≡ false =
+    grind (arith, nat_tests) in ap (λ b. if b then [] else decimal n ++ unit) differs
 
 ms_is : (ms : ℕ) → 0 < ms → ms < 2 ^ 64 → IsCount (ms_text ms)
 ms_is ms some few =
@@ -187,10 +207,19 @@ ms_is ms some few =
 
 steps_is : (steps : ℕ) → 0 < steps → steps < 2 ^ 64 → IsCount (count_text steps (codes "i"))
 steps_is steps some few =
-    subst IsCount (sym (some_count steps (codes "i") some)) (count_is steps (codes "i") (small steps few) (one_at 7 units (codes "i") refl))
+    subst IsCount (sym (some_count steps (codes "i") some))
+    (count_is steps (codes "i") (small steps few) (one_at 7 units (codes "i") refl))
 
 no_span : IsCount (codes "0s")
-no_span = record { digits = codes "0"; unit = codes "s"; parts = refl; some = omega arith; are = (refl, tt); a_unit = one_at 1 units (codes "s") refl }
+no_span =
+    record {
+      digits = codes "0";
+      unit = codes "s";
+      parts = refl;
+      some = omega arith;
+      are = (refl, tt);
+      a_unit = one_at 1 units (codes "s") refl;
+    }
 
 above_zero : (n : ℕ) → (n == 0) ≡ false → 0 < n
 above_zero n differs = grind (arith, nat_tests)
@@ -198,18 +227,25 @@ above_zero n differs = grind (arith, nat_tests)
 size_is : (ms steps : ℕ) → ms < 2 ^ 64 → steps < 2 ^ 64 → IsDuration (size_text ms steps)
 size_is ms steps few less = go (ms == 0) (steps == 0) refl refl
   where
-    go : (x y : Bool) → (ms == 0) ≡ x → (steps == 0) ≡ y → IsDuration (if x && y then codes "0s" else ms_text ms ++ count_text steps (codes "i"))
+    go : (x y : Bool) → (ms == 0) ≡ x → (steps == 0) ≡ y
+        → IsDuration (if x && y then codes "0s" else ms_text ms ++ count_text steps (codes "i"))
     go true true p q = one_count no_span
     go true false p q =
         let none : ms_text ms ≡ [] = ap ms_text (eqb-true ms 0 p) in
-        subst IsDuration (ap (λ t. t ++ count_text steps (codes "i")) (sym none)) (one_count (steps_is steps (above_zero steps q) less))
+        subst IsDuration (ap (λ t. t ++ count_text steps (codes "i")) (sym none))
+        (one_count (steps_is steps (above_zero steps q) less))
     go false true p q =
-        let none : count_text steps (codes "i") ≡ [] = ap (λ n. count_text n (codes "i")) (eqb-true steps 0 q) in
-        subst IsDuration (sym (ap (λ t. ms_text ms ++ t) none ∙ append-nil (ms_text ms))) (one_count (ms_is ms (above_zero ms p) few))
-    go false false p q = more_counts (ms_is ms (above_zero ms p) few) (one_count (steps_is steps (above_zero steps q) less))
+        let none : count_text steps (codes "i") ≡ [] =
+        ap (λ n. count_text n (codes "i")) (eqb-true steps 0 q) in
+        subst IsDuration (sym (ap (λ t. ms_text ms ++ t) none ∙ append-nil (ms_text ms)))
+        (one_count (ms_is ms (above_zero ms p) few))
+    go false false p q =
+        more_counts (ms_is ms (above_zero ms p) few)
+        (one_count (steps_is steps (above_zero steps q) less))
 
 count_some : (text : List ℕ) → IsCount text → 0 < length text
-count_some text is = let e : length text ≡ length (is.digits ++ is.unit) = ap length is.parts in omega (arith, length-append is.digits is.unit, is.some)
+count_some text is = let e : length text ≡ length (is.digits ++ is.unit) =
+    ap length is.parts in omega (arith, length-append is.digits is.unit, is.some)
 
 -- a text that begins with a digit
 pub record Digit (text : List ℕ) : Type 0 where
@@ -219,22 +255,26 @@ pub record Digit (text : List ℕ) : Type 0 where
   pub is : is_ascii_digit byte ≡ true
 
 digit_more : (a b : List ℕ) → Digit a → Digit (a ++ b)
-digit_more a b d = record { byte = d.byte; more = d.more ++ b; parts = ap (λ t. t ++ b) d.parts; is = d.is }
+digit_more a b d =
+    record { byte = d.byte; more = d.more ++ b; parts = ap (λ t. t ++ b) d.parts; is = d.is }
 
 count_digit : (text : List ℕ) → IsCount text → Digit text
 count_digit text is = go is.digits is.parts is.are is.some
   where
     go : (ds : List ℕ) → text ≡ ds ++ is.unit → IsDigits ds → 0 < length ds → Digit text
     go [] parts are some = absurd (omega arith)
-    go (d ∷ ds) parts are some = record { byte = d; more = ds ++ is.unit; parts = parts; is = are.0 }
+    go (d ∷ ds) parts are some =
+        record { byte = d; more = ds ++ is.unit; parts = parts; is = are.0 }
 
 pub duration_digit : (text : List ℕ) → IsDuration text → Digit text
 duration_digit text (one_count is) = count_digit text is
-duration_digit text (more_counts {front = front} {rest = rest} is more) = digit_more front rest (count_digit front is)
+duration_digit text (more_counts {front = front} {rest = rest} is more) =
+    digit_more front rest (count_digit front is)
 
 duration_some : (text : List ℕ) → IsDuration text → 0 < length text
 duration_some text (one_count is) = count_some text is
-duration_some text (more_counts {front = front} {rest = rest} is more) = omega (arith, length-append front rest, count_some front is)
+duration_some text (more_counts {front = front} {rest = rest} is more) =
+    omega (arith, length-append front rest, count_some front is)
 
 pub span_is : (span : Span) → IsSpan span → IsPiece (word Duration (span_text span))
 span_is span is =
@@ -246,34 +286,49 @@ span_is span is =
 digit_before : (d : ℕ) (ds rest : List ℕ) → IsDigits (d ∷ ds) → Digit ((d ∷ ds) ++ rest)
 digit_before d ds rest all = record { byte = d; more = ds ++ rest; parts = refl; is = all.0 }
 
-taken : (n : ℕ) (d : ℕ) (ds rest : List ℕ) → nat_lt 0 n ≡ true → IsDigits (d ∷ ds) → Digit (take n (d ∷ ds) ++ rest)
+taken : (n : ℕ) (d : ℕ) (ds rest : List ℕ) → nat_lt 0 n ≡ true → IsDigits (d ∷ ds)
+    → Digit (take n (d ∷ ds) ++ rest)
 taken zero d ds rest some all = absurd (cc some)
-taken (suc n) d ds rest some all = record { byte = d; more = take n ds ++ rest; parts = refl; is = all.0 }
+taken (suc n) d ds rest some all =
+    record { byte = d; more = take n ds ++ rest; parts = refl; is = all.0 }
 
 plain_digit : (d : ℕ) (ds : List ℕ) (shift : ℕ) → IsDigits (d ∷ ds) → Digit (plain (d ∷ ds) shift)
 plain_digit d ds shift all = go (nat_le 1000 shift) (nat_lt 0 (length (d ∷ ds) + shift - 1000)) refl
   where
     go : (x y : Bool) → nat_lt 0 (length (d ∷ ds) + shift - 1000) ≡ y
         → Digit (if x then (d ∷ ds) ++ noughts (shift - 1000)
-        else (if y then take (length (d ∷ ds) + shift - 1000) (d ∷ ds) ++ codes "." ++ drop (length (d ∷ ds) + shift - 1000) (d ∷ ds)
+        else (if y then take (length (d ∷ ds) + shift - 1000) (d ∷ ds) ++ codes "."
+        ++ drop (length (d ∷ ds) + shift - 1000) (d ∷ ds)
         else codes "0." ++ noughts (1000 - (length (d ∷ ds) + shift)) ++ (d ∷ ds)))
     go true y p = digit_before d ds (noughts (shift - 1000)) all
     go false true p =
-        digit_more (take (length (d ∷ ds) + shift - 1000) (d ∷ ds) ++ codes ".") (drop (length (d ∷ ds) + shift - 1000) (d ∷ ds))
+        digit_more (take (length (d ∷ ds) + shift - 1000) (d ∷ ds) ++ codes ".")
+        (drop (length (d ∷ ds) + shift - 1000) (d ∷ ds))
         (taken (length (d ∷ ds) + shift - 1000) d ds (codes ".") p all)
     go false false p =
-        record { byte = 48; more = (codes "." ++ noughts (1000 - (length (d ∷ ds) + shift))) ++ (d ∷ ds); parts = refl; is = refl }
+        record {
+          byte = 48;
+          more = (codes "." ++ noughts (1000 - (length (d ∷ ds) + shift)))
+              ++ (d ∷ ds);
+          parts = refl;
+          is = refl;
+        }
 
-digits_digit : (ds : List ℕ) (shift : ℕ) → IsDigits ds → 0 < length ds → Digit (digits_text ds shift)
+digits_digit : (ds : List ℕ) (shift : ℕ) → IsDigits ds → 0 < length ds
+    → Digit (digits_text ds shift)
 digits_digit [] shift all some = absurd (omega arith)
-digits_digit (d ∷ ds) shift all some = go (nat_le 993 (length (d ∷ ds) + shift - 1) && nat_le (length (d ∷ ds) + shift - 1) 1020)
+digits_digit (d ∷ ds) shift all some =
+    go (nat_le 993 (length (d ∷ ds) + shift - 1) && nat_le (length (d ∷ ds) + shift - 1) 1020)
   where
-    go : (b : Bool) → Digit (if b then plain (d ∷ ds) shift else scientific (d ∷ ds) (length (d ∷ ds) + shift - 1))
+    go : (b : Bool)
+        → Digit (if b then plain (d ∷ ds) shift
+        else scientific (d ∷ ds) (length (d ∷ ds) + shift - 1))
     go true = plain_digit d ds shift all
     go false =
         record {
           byte = d;
-          more = ((take 0 ds ++ fraction (d ∷ ds)) ++ codes "e") ++ power (length (d ∷ ds) + shift - 1);
+          more = ((take 0 ds ++ fraction (d ∷ ds)) ++ codes "e")
+              ++ power (length (d ∷ ds) + shift - 1);
           parts = refl;
           is = all.0;
         }
@@ -284,7 +339,8 @@ number_digit z is =
     let d = decimal_is (form_of z).size (omega (arith, form.few)) in
     go (form_of z).size (form_of z).shift ((form_of z).size == 0) (form_of z).negative is.1 d
   where
-    go : (size shift : ℕ) (b n : Bool) → n ≡ false → IsDecimal size → Digit (if b then codes "0" else sign n ++ digits_text (decimal size) shift)
+    go : (size shift : ℕ) (b n : Bool) → n ≡ false → IsDecimal size
+        → Digit (if b then codes "0" else sign n ++ digits_text (decimal size) shift)
     go size shift true n p d = record { byte = 48; more = []; parts = refl; is = refl }
     go size shift false false p d = digits_digit (decimal size) shift d.digits d.some
     go size shift false true p d = absurd (cc p)
@@ -293,11 +349,14 @@ no_sign : (b : ℕ) → is_ascii_digit b ≡ true → is_sign b ≡ false
 no_sign b is = grind (arith, nat_tests)
 
 digit_some : (text : List ℕ) → Digit text → 0 < length text
-digit_some text d = let e : length text ≡ length (d.byte ∷ d.more) = ap length d.parts in omega arith
+digit_some text d = let e : length text ≡ length (d.byte ∷ d.more) =
+    ap length d.parts in omega arith
 
 pub number_is : (z : ℤ) → IsNumber z → IsPiece (word Number (number_text z))
 number_is z is =
     let d = number_digit z is in
-    let says : DecSays (number_text z) (Ok z) = subst (DecSays (number_text z)) (printed_read z is.0) (dec_says (number_text z)) in
-    let front : is_sign (slice_index (number_text z) 0) ≡ false = ap (λ t. is_sign (slice_index t 0)) d.parts ∙ no_sign d.byte d.is in
+    let says : DecSays (number_text z) (Ok z) =
+    subst (DecSays (number_text z)) (printed_read z is.0) (dec_says (number_text z)) in
+    let front : is_sign (slice_index (number_text z) 0) ≡ false =
+    ap (λ t. is_sign (slice_index t 0)) d.parts ∙ no_sign d.byte d.is in
     (digit_some (number_text z) d, ((says.0, says.1), front))

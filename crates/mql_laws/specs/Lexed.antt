@@ -90,7 +90,8 @@ abbrev mutual
   IsPrinted (number at z) = IsNumber z
   IsPrinted (string at text) = ⊤
   IsPrinted (select at name lists) = IsSelect name lists
-  IsPrinted (ranged at inner window offset) = IsPrinted inner × IsOptionalSpan window × IsOptionalSpan offset
+  IsPrinted (ranged at inner window offset) = IsPrinted inner × IsOptionalSpan window
+      × IsOptionalSpan offset
   IsPrinted (call at name args before after keep) =
       IsName name × ArePrinted args × IsOptionalGroup before × IsOptionalGroup after
   IsPrinted (binary at op truth matching left right) =
@@ -111,4 +112,5 @@ abbrev mutual
 
 -- The text of such a tree has the words of the tree as its tokens.
 abbrev pub PrintsItsWords : Type 0
-PrintsItsWords = (tree : Tree) → IsPrinted tree → (tokens : List Token) × AreWords (pieces tree) tokens
+PrintsItsWords = (tree : Tree) → IsPrinted tree → (tokens : List Token)
+    × AreWords (pieces tree) tokens

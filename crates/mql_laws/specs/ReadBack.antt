@@ -51,10 +51,13 @@ abbrev mutual
   placeless (select at name lists) = select 0 name (map (map placeless_item) lists)
   placeless (ranged at inner window offset) = ranged 0 (placeless inner) window offset
   placeless (call at name args before after keep) =
-      call 0 (call_name name) (placeless_trees args) (first_group before after) (last_group before after) keep
-  placeless (binary at op truth matching left right) = binary 0 op truth matching (placeless left) (placeless right)
+      call 0 (call_name name) (placeless_trees args) (first_group before after)
+      (last_group before after) keep
+  placeless (binary at op truth matching left right) =
+      binary 0 op truth matching (placeless left) (placeless right)
   placeless (negate at inner) = negate 0 (placeless inner)
-  placeless (with_templates at templates body) = with_templates 0 (placeless_templates templates) (placeless body)
+  placeless (with_templates at templates body) =
+      with_templates 0 (placeless_templates templates) (placeless body)
 
   -- the same of arguments
   pub placeless_trees : Trees → Trees
@@ -108,7 +111,8 @@ IsMany One extra = extra ≡ []
 IsMany many extra = ⊤
 
 -- Without `on` or `ignoring` no other modifier stands.
-abbrev pub IsMatching : MatchKind → (names : List (List ℕ)) → Many → (extra : List (List ℕ)) → Type 0
+abbrev pub IsMatching : MatchKind → (names : List (List ℕ)) → Many → (extra : List (List ℕ))
+    → Type 0
 IsMatching All names many extra = (names ≡ []) × (many ≡ One) × (extra ≡ [])
 IsMatching kind names many extra = IsMany many extra
 
@@ -117,7 +121,8 @@ abbrev mutual
   pub IsSaid : Tree → Type 0
   IsSaid (number at z) = ⊤
   IsSaid (string at text) = ⊤
-  IsSaid (select at name lists) = IsFreeIfAny name × AllByRecursion (AllByRecursion IsFreeItem) lists
+  IsSaid (select at name lists) = IsFreeIfAny name
+      × AllByRecursion (AllByRecursion IsFreeItem) lists
   IsSaid (ranged at inner window offset) = IsSaid inner × IsRange window offset
   IsSaid (call at name args before after keep) = IsFree name × AreSaid args
   IsSaid (binary at op truth matching left right) =
@@ -151,7 +156,8 @@ pub record ReadsBack (t : Tree) (words : List Word) : Type 0 where
 
 -- the tokens of a tree's canonical text are the same query
 abbrev pub IsReadBack : Tree → Type 0
-IsReadBack t = (tokens : List Token) × AreTokens (canonical t) tokens × ReadsBack t (words_of (canonical t) tokens)
+IsReadBack t = (tokens : List Token) × AreTokens (canonical t) tokens
+    × ReadsBack t (words_of (canonical t) tokens)
 
 -- What a text says is read back.
 abbrev pub PrintedIsRead : Type 0

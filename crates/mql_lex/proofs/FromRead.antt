@@ -59,11 +59,14 @@ lone_mark byte is =
 module _ (piece : Piece) (byte : ℕ) (more : List ℕ) where
   -- ---- by the first byte
 
-  from_digits : (tail : DigitsTail piece more) → is_ascii_digit byte ≡ true → WholeTail piece tail.rest
+  from_digits : (tail : DigitsTail piece more) → is_ascii_digit byte ≡ true
+      → WholeTail piece tail.rest
       → IsPiece piece (byte ∷ (tail.digits ++ tail.rest))
   from_digits tail is (of_number kind number) =
-      subst (λ p. IsPiece p (byte ∷ (tail.digits ++ tail.rest))) (sym kind)
-      (number_by (byte ∷ tail.digits) tail.rest (omega arith) (is, tail.are) number, digit_no_sign byte is)
+      subst (λ p. IsPiece p (byte ∷ (tail.digits ++ tail.rest))) (sym kind) (
+        number_by (byte ∷ tail.digits) tail.rest (omega arith) (is, tail.are) number,
+        digit_no_sign byte is,
+      )
   from_digits tail is (of_duration kind unit) =
       subst (λ p. IsPiece p (byte ∷ (tail.digits ++ tail.rest))) (sym kind)
       (duration_by (byte ∷ tail.digits) tail.rest (omega arith) (is, tail.are) unit)
@@ -89,7 +92,13 @@ module _ (piece : Piece) (byte : ℕ) (more : List ℕ) where
       let tail = inside_tail piece byte more reads in
       let behind = tail.1 in
       subst (λ p. IsPiece p (byte ∷ more)) (sym tail.0)
-      (record { quote = byte; inner = behind.inner; parts = ap (λ t. byte ∷ t) behind.parts; a_quote = is; between = behind.between })
+      (record {
+        quote = byte;
+        inner = behind.inner;
+        parts = ap (λ t. byte ∷ t) behind.parts;
+        a_quote = is;
+        between = behind.between;
+      })
 
   from_lone : is_lone_mark byte ≡ true → Reads Marking more piece → IsPiece piece (byte ∷ more)
   from_lone is reads =
@@ -101,7 +110,8 @@ module _ (piece : Piece) (byte : ℕ) (more : List ℕ) where
   a_mark kind is = subst (λ p. IsPiece p (byte ∷ more)) (sym kind) is
 
   -- a mark whose first byte is this one
-  same_mark : (first : ℕ) (rest : List ℕ) → byte ≡ first → more ≡ rest → IsOneOf marks (first ∷ rest)
+  same_mark : (first : ℕ) (rest : List ℕ) → byte ≡ first → more ≡ rest
+      → IsOneOf marks (first ∷ rest)
       → IsOneOf marks (byte ∷ more)
   same_mark first rest byte_is more_is is = rw (byte_is, more_is) is
 
@@ -124,7 +134,8 @@ module _ (piece : Piece) (byte : ℕ) (more : List ℕ) where
       (λ tilde. same_mark 33 (codes "~") is tilde (one_at 9 marks (codes "!~") refl))
       tail.1)
 
-  from_angle : (byte == 60 || byte == 62) ≡ true → Reads Angle more piece → IsPiece piece (byte ∷ more)
+  from_angle : (byte == 60 || byte == 62) ≡ true → Reads Angle more piece
+      → IsPiece piece (byte ∷ more)
   from_angle is reads =
       let tail = angle_tail piece more reads in
       a_mark tail.0
@@ -153,28 +164,39 @@ module _ (piece : Piece) (byte : ℕ) (more : List ℕ) where
 
   -- the tests of the first byte, in their order
   by_first : (digit name blank point quote hash equal bang angle lone : Bool)
-      → is_ascii_digit byte ≡ digit → begins_name byte ≡ name → is_blank byte ≡ blank → (byte == 46) ≡ point
+      → is_ascii_digit byte ≡ digit → begins_name byte ≡ name → is_blank byte ≡ blank
+      → (byte == 46) ≡ point
       → is_quote byte ≡ quote → (byte == 35) ≡ hash → (byte == 61) ≡ equal → (byte == 33) ≡ bang
       → (byte == 60 || byte == 62) ≡ angle → is_lone_mark byte ≡ lone
-      → Goes (cond digit (Some Whole) (cond name (Some Named) (cond blank (Some Blanks) (cond point (Some Bare)
-      (cond quote (Some (Within byte)) (cond hash (Some Comment) (cond equal (Some Equals) (cond bang (Some Bang)
+      → Goes (cond digit (Some Whole)
+      (cond name (Some Named) (cond blank (Some Blanks) (cond point (Some Bare)
+      (cond quote (Some (Within byte))
+      (cond hash (Some Comment) (cond equal (Some Equals) (cond bang (Some Bang)
       (cond angle (Some Angle) (cond lone (Some Marking) None)))))))))) more piece
       → IsPiece piece (byte ∷ more)
   by_first true n b p q h e g a l is _ _ _ _ _ _ _ _ _ reads = from_digit is reads
   by_first false true b p q h e g a l _ is _ _ _ _ _ _ _ _ reads = from_letter is reads
   by_first false false true p q h e g a l _ _ is _ _ _ _ _ _ _ reads = from_blank is reads
-  by_first false false false true q h e g a l _ _ _ is _ _ _ _ _ _ reads = from_point (eqb-true byte 46 is) reads
+  by_first false false false true q h e g a l _ _ _ is _ _ _ _ _ _ reads =
+      from_point (eqb-true byte 46 is) reads
   by_first false false false false true h e g a l _ _ _ _ is _ _ _ _ _ reads = from_quote is reads
-  by_first false false false false false true e g a l _ _ _ _ _ is _ _ _ _ reads = from_hash (eqb-true byte 35 is) reads
-  by_first false false false false false false true g a l _ _ _ _ _ _ is _ _ _ reads = from_equals (eqb-true byte 61 is) reads
-  by_first false false false false false false false true a l _ _ _ _ _ _ _ is _ _ reads = from_bang (eqb-true byte 33 is) reads
-  by_first false false false false false false false false true l _ _ _ _ _ _ _ _ is _ reads = from_angle is reads
-  by_first false false false false false false false false false true _ _ _ _ _ _ _ _ _ is reads = from_lone is reads
-  by_first false false false false false false false false false false _ _ _ _ _ _ _ _ _ _ reads = absurd (cc reads)
+  by_first false false false false false true e g a l _ _ _ _ _ is _ _ _ _ reads =
+      from_hash (eqb-true byte 35 is) reads
+  by_first false false false false false false true g a l _ _ _ _ _ _ is _ _ _ reads =
+      from_equals (eqb-true byte 61 is) reads
+  by_first false false false false false false false true a l _ _ _ _ _ _ _ is _ _ reads =
+      from_bang (eqb-true byte 33 is) reads
+  by_first false false false false false false false false true l _ _ _ _ _ _ _ _ is _ reads =
+      from_angle is reads
+  by_first false false false false false false false false false true _ _ _ _ _ _ _ _ _ is reads =
+      from_lone is reads
+  by_first false false false false false false false false false false _ _ _ _ _ _ _ _ _ _ reads =
+      absurd (cc reads)
 
 pub piece_from_read : (piece : Piece) (text : List ℕ) → Reads Start text piece → IsPiece piece text
 piece_from_read piece [] reads = absurd (cc reads)
 piece_from_read piece (byte ∷ more) reads =
-    by_first piece byte more (is_ascii_digit byte) (begins_name byte) (is_blank byte) (byte == 46) (is_quote byte)
+    by_first piece byte more (is_ascii_digit byte) (begins_name byte) (is_blank byte) (byte == 46)
+    (is_quote byte)
     (byte == 35) (byte == 61) (byte == 33) (byte == 60 || byte == 62) (is_lone_mark byte)
     refl refl refl refl refl refl refl refl refl refl reads

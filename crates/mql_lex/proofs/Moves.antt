@@ -19,7 +19,8 @@ Reads phase text piece = result next piece_of phase text ≡ Some piece
 
 -- the same from the phase that one byte leads to, if it leads to one
 abbrev pub Goes : Option Phase → List ℕ → Piece → Type 0
-Goes phase text piece = option_and_then piece_of (option_and_then (λ p. run next p text) phase) ≡ Some piece
+Goes phase text piece =
+    option_and_then piece_of (option_and_then (λ p. run next p text) phase) ≡ Some piece
 
 pub digit_no_sign : (byte : ℕ) → is_ascii_digit byte ≡ true → is_sign byte ≡ false
 digit_no_sign byte is = grind (arith, nat_tests)
@@ -28,7 +29,8 @@ pub name_no_digit : (byte : ℕ) → begins_name byte ≡ true → is_ascii_digi
 name_no_digit byte is = grind (arith, nat_tests)
 
 -- a word at its place among words is one of them
-pub one_at : (n : ℕ) (words : List (List ℕ)) (word : List ℕ) → slice_get words n ≡ Some word → IsOneOf words word
+pub one_at : (n : ℕ) (words : List (List ℕ)) (word : List ℕ) → slice_get words n ≡ Some word
+    → IsOneOf words word
 one_at n [] word is = absurd (cc is)
 one_at zero (first ∷ words) word is = inl (cc is)
 one_at (suc n) (first ∷ words) word is = inr (one_at n words word is)
@@ -45,16 +47,19 @@ any_byte P (one ∷ bytes) byte all is = go (byte == one) refl is (any_byte P by
     go false same is more = more is
 
 -- digits lead from a phase that they don't leave to itself
-pub behind_digits : (phase : Phase) → ((byte : ℕ) → is_ascii_digit byte ≡ true → next phase byte ≡ Some phase)
+pub behind_digits : (phase : Phase)
+    → ((byte : ℕ) → is_ascii_digit byte ≡ true → next phase byte ≡ Some phase)
     → (digits rest : List ℕ) (piece : Piece) → IsDigits digits → Reads phase rest piece
     → Reads phase (digits ++ rest) piece
 behind_digits phase stays [] rest piece are reads = reads
 behind_digits phase stays (byte ∷ digits) rest piece are reads =
-    ap (λ o. option_and_then piece_of (option_and_then (λ p. run next p (digits ++ rest)) o)) (stays byte are.0)
+    ap (λ o. option_and_then piece_of (option_and_then (λ p. run next p (digits ++ rest)) o))
+    (stays byte are.0)
     ∙ behind_digits phase stays digits rest piece are.1 reads
 
 -- one byte leads on
-pub move : (phase target : Phase) (byte : ℕ) (more : List ℕ) (piece : Piece) → next phase byte ≡ Some target
+pub move : (phase target : Phase) (byte : ℕ) (more : List ℕ) (piece : Piece)
+    → next phase byte ≡ Some target
     → Reads target more piece → Reads phase (byte ∷ more) piece
 move phase target byte more piece is reads =
     ap (λ o. option_and_then piece_of (option_and_then (λ p. run next p more) o)) is ∙ reads

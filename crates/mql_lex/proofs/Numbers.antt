@@ -16,7 +16,8 @@ use Rattle.mql_lex.proofs.Moves.{Reads, Goes}
 
 -- ---- the exponent
 
-power_tail : (text : List ℕ) (piece : Piece) → Reads Power text piece → (piece ≡ Token Number) × IsDigits text
+power_tail : (text : List ℕ) (piece : Piece) → Reads Power text piece → (piece ≡ Token Number)
+    × IsDigits text
 power_tail [] piece reads = (cc reads, tt)
 power_tail (byte ∷ more) piece reads = go (is_ascii_digit byte) refl reads (power_tail more piece)
   where
@@ -31,13 +32,15 @@ record Digits (text : List ℕ) : Type 0 where
   pub some : 0 < length text
   pub are : IsDigits text
 
-first_power : (byte : ℕ) (more : List ℕ) (piece : Piece) → is_ascii_digit byte ≡ true → Reads Power more piece
+first_power : (byte : ℕ) (more : List ℕ) (piece : Piece) → is_ascii_digit byte ≡ true
+    → Reads Power more piece
     → (piece ≡ Token Number) × Digits (byte ∷ more)
 first_power byte more piece is reads =
     let rest = power_tail more piece reads in
     (rest.0, record { some = omega arith; are = (is, rest.1) })
 
-signed_tail : (text : List ℕ) (piece : Piece) → Reads MarkSigned text piece → (piece ≡ Token Number) × Digits text
+signed_tail : (text : List ℕ) (piece : Piece) → Reads MarkSigned text piece → (piece ≡ Token Number)
+    × Digits text
 signed_tail [] piece reads = absurd (cc reads)
 signed_tail (byte ∷ more) piece reads = go (is_ascii_digit byte) refl reads
   where
@@ -55,7 +58,8 @@ record AfterMark (text : List ℕ) : Type 0 where
   pub a_sign : IsSign negative sign
   pub power : Digits digits
 
-a_sign_mark : (byte : ℕ) (digits : List ℕ) → is_sign byte ≡ true → Digits digits → AfterMark (byte ∷ digits)
+a_sign_mark : (byte : ℕ) (digits : List ℕ) → is_sign byte ≡ true → Digits digits
+    → AfterMark (byte ∷ digits)
 a_sign_mark byte digits is power =
     ⊎_elim
     (λ plus. let same = eqb-true byte 43 plus in
@@ -78,7 +82,8 @@ a_sign_mark byte digits is power =
     })
     (or_cases (byte == 43) (byte == 45) is)
 
-marked_tail : (text : List ℕ) (piece : Piece) → Reads Marked text piece → (piece ≡ Token Number) × AfterMark text
+marked_tail : (text : List ℕ) (piece : Piece) → Reads Marked text piece → (piece ≡ Token Number)
+    × AfterMark text
 marked_tail [] piece reads = absurd (cc reads)
 marked_tail (byte ∷ more) piece reads = go (is_ascii_digit byte) (is_sign byte) refl refl reads
   where
@@ -86,8 +91,17 @@ marked_tail (byte ∷ more) piece reads = go (is_ascii_digit byte) (is_sign byte
         → Goes (cond d (Some Power) (cond s (Some MarkSigned) None)) more piece
         → (piece ≡ Token Number) × AfterMark (byte ∷ more)
     go true s is other reads =
-        let rest = first_power byte more piece is reads in
-        (rest.0, record { sign = []; digits = byte ∷ more; negative = false; parts = refl; a_sign = inr refl; power = rest.1 })
+        let rest = first_power byte more piece is reads in (
+          rest.0,
+          record {
+            sign = [];
+            digits = byte ∷ more;
+            negative = false;
+            parts = refl;
+            a_sign = inr refl;
+            power = rest.1;
+          },
+        )
     go false true is other reads =
         let rest = signed_tail more piece reads in (rest.0, a_sign_mark byte more other rest.1)
     go false false is other reads = absurd (cc reads)
@@ -100,7 +114,8 @@ pub record Ending (text : List ℕ) : Type 0 where
 no_exponent : Ending []
 no_exponent = record { power = pos 0; is = inl (refl, refl) }
 
-an_exponent : (byte : ℕ) (more : List ℕ) → is_mark_letter byte ≡ true → AfterMark more → Ending (byte ∷ more)
+an_exponent : (byte : ℕ) (more : List ℕ) → is_mark_letter byte ≡ true → AfterMark more
+    → Ending (byte ∷ more)
 an_exponent byte more is after = record {
   power = signed after.negative (digits_value 10 after.digits);
   is = inr (record {
@@ -130,7 +145,8 @@ pub record Rest (text : List ℕ) : Type 0 where
   pub are : IsDigits digits
   pub ending : Ending end
 
-one_digit_more : (byte : ℕ) (more : List ℕ) → is_ascii_digit byte ≡ true → Rest more → Rest (byte ∷ more)
+one_digit_more : (byte : ℕ) (more : List ℕ) → is_ascii_digit byte ≡ true → Rest more
+    → Rest (byte ∷ more)
 one_digit_more byte more is rest = record {
   digits = byte ∷ rest.digits;
   end = rest.end;
@@ -142,7 +158,8 @@ one_digit_more byte more is rest = record {
 ended : (end : List ℕ) → Ending end → Rest end
 ended end ending = record { digits = []; end = end; parts = refl; are = tt; ending = ending }
 
-fraction_tail : (text : List ℕ) (piece : Piece) → Reads Fraction text piece → (piece ≡ Token Number) × Rest text
+fraction_tail : (text : List ℕ) (piece : Piece) → Reads Fraction text piece → (piece ≡ Token Number)
+    × Rest text
 fraction_tail [] piece reads = (cc reads, ended [] no_exponent)
 fraction_tail (byte ∷ more) piece reads =
     go (is_ascii_digit byte) (is_mark_letter byte) refl refl reads (fraction_tail more piece)
@@ -208,7 +225,8 @@ bare_number (byte ∷ more) piece reads = go (is_ascii_digit byte) refl reads
         let tail = fraction_tail more piece reads in
         let rest = tail.1 in
         let whole : IsAnyNumber (46 ∷ byte ∷ (rest.digits ++ rest.end)) =
-        number_of [] (codes ".") (byte ∷ rest.digits) rest.end tt (is, rest.are) (some_digits rest.digits) (inl refl) rest.ending in
+        number_of [] (codes ".") (byte ∷ rest.digits) rest.end tt (is, rest.are)
+        (some_digits rest.digits) (inl refl) rest.ending in
         (tail.0, subst (λ t. IsAnyNumber (46 ∷ byte ∷ t)) (sym rest.parts) whole)
     go false is reads = absurd (cc reads)
 
@@ -223,7 +241,8 @@ number_by digits text some are (no_point ending) =
     number_of digits [] [] text are tt (omega arith) (inr (refl, refl)) ending
 number_by digits text some are (a_point rest point behind) =
     let whole : IsAnyNumber (digits ++ (46 ∷ (behind.digits ++ behind.end))) =
-    number_of digits (codes ".") behind.digits behind.end are behind.are (omega arith) (inl refl) behind.ending in
+    number_of digits (codes ".") behind.digits behind.end are behind.are (omega arith) (inl refl)
+    behind.ending in
     subst (λ t. IsAnyNumber (digits ++ t)) (sym (point ∙ ap (λ t. 46 ∷ t) behind.parts)) whole
 
 pub no_more_number : NumberTail []
@@ -231,9 +250,11 @@ no_more_number = no_point no_exponent
 
 pub point_tail : (more : List ℕ) (piece : Piece) → Reads Fraction more piece
     → (piece ≡ Token Number) × NumberTail (46 ∷ more)
-point_tail more piece reads = let tail = fraction_tail more piece reads in (tail.0, a_point more refl tail.1)
+point_tail more piece reads = let tail =
+    fraction_tail more piece reads in (tail.0, a_point more refl tail.1)
 
-pub mark_tail : (byte : ℕ) (more : List ℕ) (piece : Piece) → is_mark_letter byte ≡ true → Reads Marked more piece
+pub mark_tail : (byte : ℕ) (more : List ℕ) (piece : Piece) → is_mark_letter byte ≡ true
+    → Reads Marked more piece
     → (piece ≡ Token Number) × NumberTail (byte ∷ more)
 mark_tail byte more piece is reads =
     let tail = marked_tail more piece reads in (tail.0, no_point (an_exponent byte more is tail.1))

@@ -18,14 +18,16 @@ use Rattle.mql_lex.proofs.Reaches.{Found, found_longest, longest_found, longest_
 -- ---- what is computed
 
 -- what is skipped is only counted
-pub lexed_skip : (text : List ℕ) (skip at : ℕ) → skip ≤ length text → lexed skip at text ≡ lexed 0 (at + skip) (drop skip text)
+pub lexed_skip : (text : List ℕ) (skip at : ℕ) → skip ≤ length text
+    → lexed skip at text ≡ lexed 0 (at + skip) (drop skip text)
 lexed_skip text zero at few = ap (λ n. lexed 0 n text) (omega arith)
 lexed_skip [] (suc skip) at few = absurd (omega arith)
 lexed_skip (byte ∷ more) (suc skip) at few =
     lexed_skip more skip (suc at) (omega arith) ∙ ap (λ n. lexed 0 n (drop skip more)) (omega arith)
 
 -- a piece and the rest
-pub lexed_piece : (text : List ℕ) (at : ℕ) (piece : Piece) (len : ℕ) → piece_reading text ≡ Some (piece, len)
+pub lexed_piece : (text : List ℕ) (at : ℕ) (piece : Piece) (len : ℕ)
+    → piece_reading text ≡ Some (piece, len)
     → 0 < len → len ≤ length text
     → lexed 0 at text ≡ put_before (token_of piece at len) (lexed 0 (at + len) (drop len text))
 lexed_piece [] at piece len found some within = absurd (omega arith)
@@ -37,9 +39,11 @@ lexed_piece (byte ∷ more) at piece (suc len) found some within =
     ∙ lexed_skip more len (suc at) (omega arith)
     ∙ ap (λ n. lexed 0 n (drop len more)) (omega arith))
 
-pub lexed_none : (text : List ℕ) (at : ℕ) → 0 < length text → piece_reading text ≡ None → lexed 0 at text ≡ Err at
+pub lexed_none : (text : List ℕ) (at : ℕ) → 0 < length text → piece_reading text ≡ None
+    → lexed 0 at text ≡ Err at
 lexed_none [] at some none = absurd (omega arith)
-lexed_none (byte ∷ more) at some none = ap (λ o. with_piece at o (λ skip. lexed skip (suc at) more)) none
+lexed_none (byte ∷ more) at some none =
+    ap (λ o. with_piece at o (λ skip. lexed skip (suc at) more)) none
 
 -- ---- what is computed is what the grammar says
 
@@ -62,7 +66,9 @@ outcome_piece : (piece : Piece) (front more : List ℕ) (at : ℕ) (r : Result (
 outcome_piece (Token kind) front more at (Ok tokens) is leads =
     let far : (at + length front) + length more ≡ at + length (front ++ more) =
     omega (arith, length-append front more) in
-    subst (λ n. Leads n [] at (front ++ more) (record { kind = kind; at = at; len = length front } ∷ tokens)) far
+    subst (λ n.
+    Leads n [] at (front ++ more)
+    (record { kind = kind; at = at; len = length front } ∷ tokens)) far
     (a_token is leads)
 outcome_piece Gap front more at (Ok tokens) is leads =
     let far : (at + length front) + length more ≡ at + length (front ++ more) =
@@ -90,13 +96,16 @@ outcome_found : (text : List ℕ) (at : ℕ) (piece : Piece) (len : ℕ) → Fou
 outcome_found text at piece len found r is =
     let front = take len text in
     let size : length front ≡ len = length-take-le len text found.within in
-    let whole : Outcome at (front ++ drop len text) (put_before (token_of piece at (length front)) r) =
+    let whole :
+    Outcome at (front ++ drop len text) (put_before (token_of piece at (length front)) r) =
     outcome_piece piece front (drop len text) at r found.longest
     (subst (λ n. Outcome (at + n) (drop len text) r) (sym size) is) in
     subst (λ n. Outcome at text (put_before (token_of piece at n) r)) size
-    (subst (λ t. Outcome at t (put_before (token_of piece at (length front)) r)) (take-append-drop len text) whole)
+    (subst (λ t. Outcome at t (put_before (token_of piece at (length front)) r))
+    (take-append-drop len text) whole)
 
-pub outcome_is : (n : ℕ) (text : List ℕ) (at : ℕ) → length text ≤ n → Outcome at text (lexed 0 at text)
+pub outcome_is : (n : ℕ) (text : List ℕ) (at : ℕ) → length text ≤ n
+    → Outcome at text (lexed 0 at text)
 outcome_is n [] at few =
     let far : at ≡ at + 0 = omega arith in subst (λ far. Leads far [] at [] []) far no_more
 outcome_is zero (byte ∷ more) at few = absurd (omega arith)
@@ -108,15 +117,24 @@ outcome_is (suc n) (byte ∷ more) at few =
         → Outcome at (byte ∷ more) (lexed 0 at (byte ∷ more))
     go None is behind =
         subst (Outcome at (byte ∷ more)) (sym (lexed_none (byte ∷ more) at (omega arith) is))
-        (record { tokens = []; rest = byte ∷ more; leads = no_more; more = λ e. cc e; none = none_found (byte ∷ more) is })
+        (record {
+          tokens = [];
+          rest = byte ∷ more;
+          leads = no_more;
+          more = λ e. cc e;
+          none = none_found (byte ∷ more) is;
+        })
     go (Some piece) is behind =
         let found = found_longest (byte ∷ more) piece.0 piece.1 is in
         let some = found.some in
         let within = found.within in
         let rest = drop piece.1 (byte ∷ more) in
-        let size : length rest ≤ n = omega (arith, length-drop piece.1 (byte ∷ more), some, within) in
-        subst (Outcome at (byte ∷ more)) (sym (lexed_piece (byte ∷ more) at piece.0 piece.1 is some within))
-        (outcome_found (byte ∷ more) at piece.0 piece.1 found (lexed 0 (at + piece.1) rest) (behind rest (at + piece.1) size))
+        let size : length rest ≤ n =
+        omega (arith, length-drop piece.1 (byte ∷ more), some, within) in
+        subst (Outcome at (byte ∷ more))
+        (sym (lexed_piece (byte ∷ more) at piece.0 piece.1 is some within))
+        (outcome_found (byte ∷ more) at piece.0 piece.1 found (lexed 0 (at + piece.1) rest)
+        (behind rest (at + piece.1) size))
 
 -- ---- and nothing else is
 
@@ -130,26 +148,32 @@ put_before_more front back (Ok tokens) = ap Ok (sym (append_assoc front back tok
 put_before_more front back (Err at) = refl
 
 piece_lexed : (piece : Piece) (front more : List ℕ) (at : ℕ) → IsLongest piece front more
-    → lexed 0 at (front ++ more) ≡ put_before (token_of piece at (length front)) (lexed 0 (at + length front) more)
+    → lexed 0 at (front ++ more)
+    ≡ put_before (token_of piece at (length front)) (lexed 0 (at + length front) more)
 piece_lexed piece front more at is =
     lexed_piece (front ++ more) at piece (length front) (longest_found piece front more is)
     (longest_some piece front more is) (omega (arith, length-append front more))
-    ∙ ap (λ t. put_before (token_of piece at (length front)) (lexed 0 (at + length front) t)) (drop-append_seam front more)
+    ∙ ap (λ t. put_before (token_of piece at (length front)) (lexed 0 (at + length front) t))
+    (drop-append_seam front more)
 
-pub leads_lexed : (far : ℕ) (rest : List ℕ) (at : ℕ) (text : List ℕ) (tokens : List TokenOf) → Leads far rest at text tokens
+pub leads_lexed : (far : ℕ) (rest : List ℕ) (at : ℕ) (text : List ℕ) (tokens : List TokenOf)
+    → Leads far rest at text tokens
     → lexed 0 at text ≡ put_before tokens (lexed 0 far rest)
 leads_lexed far rest at text tokens no_more = sym (put_before_none (lexed 0 far rest))
 leads_lexed far rest at text tokens (a_gap {front = front} {more = more} is leads) =
     piece_lexed Gap front more at is
     ∙ put_before_none (lexed 0 (at + length front) more)
     ∙ leads_lexed far rest (at + length front) more tokens leads
-leads_lexed far rest at text tokens (a_token {kind = kind} {front = front} {more = more} {tokens = behind} is leads) =
+leads_lexed far rest at text tokens
+    (a_token {kind = kind} {front = front} {more = more} {tokens = behind} is leads) =
     piece_lexed (Token kind) front more at is
-    ∙ ap (put_before (token_of (Token kind) at (length front))) (leads_lexed far rest (at + length front) more behind leads)
+    ∙ ap (put_before (token_of (Token kind) at (length front)))
+    (leads_lexed far rest (at + length front) more behind leads)
     ∙ put_before_more (token_of (Token kind) at (length front)) behind (lexed 0 far rest)
 
 -- a text has one list of tokens
-pub tokens_lexed : (text : List ℕ) (tokens : List TokenOf) → AreTokens text tokens → lexed 0 0 text ≡ Ok tokens
+pub tokens_lexed : (text : List ℕ) (tokens : List TokenOf) → AreTokens text tokens
+    → lexed 0 0 text ≡ Ok tokens
 tokens_lexed text tokens are =
     leads_lexed (length text) [] 0 text tokens are ∙ ap Ok (append-nil tokens)
 
@@ -161,19 +185,29 @@ some_left (byte ∷ rest) more = omega arith
 pub bad_lexed : (text : List ℕ) (at : ℕ) → IsBad text at → lexed 0 0 text ≡ Err at
 bad_lexed text at bad =
     leads_lexed at bad.rest 0 text bad.tokens bad.leads
-    ∙ ap (put_before bad.tokens) (lexed_none bad.rest at (some_left bad.rest bad.more) (found_none bad.rest bad.none))
+    ∙ ap (put_before bad.tokens)
+    (lexed_none bad.rest at (some_left bad.rest bad.more) (found_none bad.rest bad.none))
 
 -- ---- a whole text
 
-pub lexed_tokens : (text : List ℕ) (tokens : List TokenOf) → lexed 0 0 text ≡ Ok tokens → AreTokens text tokens
+pub lexed_tokens : (text : List ℕ) (tokens : List TokenOf) → lexed 0 0 text ≡ Ok tokens
+    → AreTokens text tokens
 lexed_tokens text tokens is =
-    let whole : Outcome 0 text (Ok tokens) = subst (Outcome 0 text) is (outcome_is (length text) text 0 (omega arith)) in
+    let whole : Outcome 0 text (Ok tokens) =
+    subst (Outcome 0 text) is (outcome_is (length text) text 0 (omega arith)) in
     subst (λ n. Leads n [] 0 text tokens) (omega arith) whole
 
 pub lexed_bad : (text : List ℕ) (at : ℕ) → lexed 0 0 text ≡ Err at → IsBad text at
 lexed_bad text at is =
-    let whole : Outcome 0 text (Err at) = subst (Outcome 0 text) is (outcome_is (length text) text 0 (omega arith)) in
-    record { tokens = whole.tokens; rest = whole.rest; leads = whole.leads; more = whole.more; none = whole.none }
+    let whole : Outcome 0 text (Err at) =
+    subst (Outcome 0 text) is (outcome_is (length text) text 0 (omega arith)) in
+    record {
+      tokens = whole.tokens;
+      rest = whole.rest;
+      leads = whole.leads;
+      more = whole.more;
+      none = whole.none;
+    }
 
 -- ---- the loop
 
@@ -195,7 +229,8 @@ next_piece text found next at piece len so_far is push =
 
 -- ---- the answers
 
-from_or_bad : (r : Result (List TokenOf) ℕ) (tokens : List TokenOf) → or_bad r ≡ Ok tokens → r ≡ Ok tokens
+from_or_bad : (r : Result (List TokenOf) ℕ) (tokens : List TokenOf) → or_bad r ≡ Ok tokens
+    → r ≡ Ok tokens
 from_or_bad (Ok found) tokens is = cc is
 from_or_bad (Err at) tokens is = absurd (cc is)
 
@@ -203,22 +238,27 @@ bad_from_or_bad : (r : Result (List TokenOf) ℕ) (at : ℕ) → or_bad r ≡ Er
 bad_from_or_bad (Ok found) at is = absurd (cc is)
 bad_from_or_bad (Err other) at is = cc is
 
-pub given_tokens : (text : List ℕ) (r : Result (List TokenOf) LexFault) → Gives r (or_bad (lexed 0 0 text))
+pub given_tokens : (text : List ℕ) (r : Result (List TokenOf) LexFault)
+    → Gives r (or_bad (lexed 0 0 text))
     → IfOk r (AreTokens text)
 given_tokens text (Ok tokens) is = lexed_tokens text tokens (from_or_bad (lexed 0 0 text) tokens is)
 given_tokens text (Err fault) is = tt
 
-pub given_bad : (text : List ℕ) (r : Result (List TokenOf) LexFault) (at : ℕ) → Gives r (or_bad (lexed 0 0 text))
+pub given_bad : (text : List ℕ) (r : Result (List TokenOf) LexFault) (at : ℕ)
+    → Gives r (or_bad (lexed 0 0 text))
     → r ≡ Err (BadToken at) → IsBad text at
 given_bad text r at is bad =
-    lexed_bad text at (bad_from_or_bad (lexed 0 0 text) at (subst (λ a. Gives a (or_bad (lexed 0 0 text))) bad is))
+    lexed_bad text at
+    (bad_from_or_bad (lexed 0 0 text) at
+    (subst (λ a. Gives a (or_bad (lexed 0 0 text))) bad is))
 
 pub reading_short : (text : List ℕ) → length text ≤ 16384 → reading text ≡ or_bad (lexed 0 0 text)
 unfolding reading
 reading_short text few =
     let short : nat_lt 16384 (length text) ≡ false = grind (arith, nat_tests) in rw short refl
 
-pub reading_long : (text : List ℕ) → 16384 < length text → reading text ≡ Err (TooLong (length text))
+pub reading_long : (text : List ℕ) → 16384 < length text
+    → reading text ≡ Err (TooLong (length text))
 unfolding reading
 reading_long text many =
     let long : nat_lt 16384 (length text) ≡ true = grind (arith, nat_tests) in rw long refl
@@ -233,22 +273,27 @@ cases_short : (text : List ℕ) → (length text ≤ 16384) ⊎ (16384 < length 
 cases_short text = ⊎_elim (λ more. inr more) (λ few. inl few) (cases_lt 16384 (length text))
 
 -- the reading of a text is its tokens, and each list of its tokens is this one
-pub reading_tokens : (text : List ℕ) (tokens : List TokenOf) → reading text ≡ Ok tokens → AreTokens text tokens
+pub reading_tokens : (text : List ℕ) (tokens : List TokenOf) → reading text ≡ Ok tokens
+    → AreTokens text tokens
 reading_tokens text tokens is = ⊎_elim
-    (λ few. lexed_tokens text tokens (from_or_bad (lexed 0 0 text) tokens (sym (reading_short text few) ∙ is)))
+    (λ few. lexed_tokens text tokens
+    (from_or_bad (lexed 0 0 text) tokens (sym (reading_short text few) ∙ is)))
     (λ many. absurd (cc (reading_long text many, is)))
     (cases_short text)
 
-pub tokens_reading : (text : List ℕ) (tokens : List TokenOf) → length text ≤ 16384 → AreTokens text tokens
+pub tokens_reading : (text : List ℕ) (tokens : List TokenOf) → length text ≤ 16384
+    → AreTokens text tokens
     → reading text ≡ Ok tokens
-tokens_reading text tokens few are = reading_short text few ∙ ap or_bad (tokens_lexed text tokens are)
+tokens_reading text tokens few are = reading_short text few
+    ∙ ap or_bad (tokens_lexed text tokens are)
 
 pub bad_reading : (text : List ℕ) (at : ℕ) → length text ≤ 16384 → IsBad text at
     → reading text ≡ Err (BadToken at)
 bad_reading text at few bad = reading_short text few ∙ ap or_bad (bad_lexed text at bad)
 
 -- a text has one list of tokens
-pub one_list : (text : List ℕ) (one other : List TokenOf) → AreTokens text one → AreTokens text other → one ≡ other
+pub one_list : (text : List ℕ) (one other : List TokenOf) → AreTokens text one
+    → AreTokens text other → one ≡ other
 one_list text one other are are_too =
     let first = tokens_lexed text one are in
     let second = tokens_lexed text other are_too in

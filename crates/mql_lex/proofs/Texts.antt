@@ -15,7 +15,8 @@ use Rattle.mql_lex.proofs.Moves.{Reads, Goes}
 module _ (piece : Piece) where
   -- ---- names
 
-  pub named_tail : (text : List ℕ) → Reads Named text piece → (piece ≡ Token Name) × (list_all is_name_byte text ≡ true)
+  pub named_tail : (text : List ℕ) → Reads Named text piece → (piece ≡ Token Name)
+      × (list_all is_name_byte text ≡ true)
   named_tail [] reads = (cc reads, refl)
   named_tail (byte ∷ more) reads = go (is_name_byte byte) reads (named_tail more)
     where
@@ -27,7 +28,8 @@ module _ (piece : Piece) where
 
   -- ---- blanks and comments
 
-  pub blanks_tail : (text : List ℕ) → Reads Blanks text piece → (piece ≡ Gap) × (list_all is_blank text ≡ true)
+  pub blanks_tail : (text : List ℕ) → Reads Blanks text piece → (piece ≡ Gap)
+      × (list_all is_blank text ≡ true)
   blanks_tail [] reads = (cc reads, refl)
   blanks_tail (byte ∷ more) reads = go (is_blank byte) reads (blanks_tail more)
     where
@@ -43,7 +45,8 @@ module _ (piece : Piece) where
   comment_tail (byte ∷ more) reads = go (not (byte == 10)) reads (comment_tail more)
     where
       go : (n : Bool) → Goes (cond n (Some Comment) None) more piece
-          → (Reads Comment more piece → (piece ≡ Gap) × (list_all (λ byte. not (byte == 10)) more ≡ true))
+          → (Reads Comment more piece → (piece ≡ Gap)
+          × (list_all (λ byte. not (byte == 10)) more ≡ true))
           → (piece ≡ Gap) × ((n && list_all (λ byte. not (byte == 10)) more) ≡ true)
       go true reads tail = tail reads
       go false reads tail = absurd (cc reads)
@@ -91,11 +94,19 @@ module _ (piece : Piece) (quote : ℕ) where
   behind_byte byte more escaped plain reads = go (byte == quote) (byte == 92) refl refl reads
     where
       go : (q s : Bool) → (byte == quote) ≡ q → (byte == 92) ≡ s
-          → Goes (cond q (Some Closed) (cond s (Some (Escaped quote)) (Some (Within quote)))) more piece
+          → Goes (cond q (Some Closed) (cond s (Some (Escaped quote)) (Some (Within quote)))) more
+          piece
           → (piece ≡ Token Str) × InnerTail quote false (byte ∷ more)
       go true s is other reads =
-          let rest = closed_tail piece more reads in
-          (rest.0, record { inner = []; parts = ap (λ b. b ∷ more) (eqb-true byte quote is) ∙ ap (λ t. quote ∷ t) rest.1; between = refl })
+          let rest = closed_tail piece more reads in (
+            rest.0,
+            record {
+              inner = [];
+              parts = ap (λ b. b ∷ more) (eqb-true byte quote is)
+                  ∙ ap (λ t. quote ∷ t) rest.1;
+              between = refl;
+            },
+          )
       go false true is other reads =
           let rest = escaped reads in
           let behind = rest.1 in (
@@ -120,7 +131,8 @@ module _ (piece : Piece) (quote : ℕ) where
   mutual
     pub inside_tail : (text : List ℕ) → FromInside false text
     inside_tail [] reads = absurd (cc reads)
-    inside_tail (byte ∷ more) reads = behind_byte byte more (escaped_tail more) (inside_tail more) reads
+    inside_tail (byte ∷ more) reads =
+        behind_byte byte more (escaped_tail more) (inside_tail more) reads
 
     escaped_tail : (text : List ℕ) → FromInside true text
     escaped_tail [] reads = absurd (cc reads)
@@ -134,11 +146,13 @@ module _ (piece : Piece) where
   mark_tail (byte ∷ more) reads = absurd (cc reads)
 
   -- `=` or `~`
-  second_tail : (byte : ℕ) (more : List ℕ) → Goes (cond (byte == 61 || byte == 126) (Some Marking) None) more piece
+  second_tail : (byte : ℕ) (more : List ℕ)
+      → Goes (cond (byte == 61 || byte == 126) (Some Marking) None) more piece
       → (piece ≡ Token Mark) × ((byte ∷ more ≡ codes "=") ⊎ (byte ∷ more ≡ codes "~"))
   second_tail byte more reads = go (byte == 61) (byte == 126) refl refl reads
     where
-      go : (e t : Bool) → (byte == 61) ≡ e → (byte == 126) ≡ t → Goes (cond (e || t) (Some Marking) None) more piece
+      go : (e t : Bool) → (byte == 61) ≡ e → (byte == 126) ≡ t
+          → Goes (cond (e || t) (Some Marking) None) more piece
           → (piece ≡ Token Mark) × ((byte ∷ more ≡ codes "=") ⊎ (byte ∷ more ≡ codes "~"))
       go true t is other reads =
           let rest = mark_tail more reads in

@@ -28,13 +28,15 @@ all_power digits are =
     subst (λ t. Reads Power t (Token Number)) (append-nil digits)
     (behind_digits Power (λ byte is. rw is refl) digits [] (Token Number) are refl)
 
-first_power : (phase : Phase) → DigitTo phase Power → (digits : List ℕ) → 0 < length digits → IsDigits digits
+first_power : (phase : Phase) → DigitTo phase Power → (digits : List ℕ) → 0 < length digits
+    → IsDigits digits
     → Reads phase digits (Token Number)
 first_power phase to [] some are = absurd (omega arith)
 first_power phase to (byte ∷ digits) some are =
     move phase Power byte digits (Token Number) (to byte are.0) (all_power digits are.1)
 
-behind_letter : (negative : Bool) (sign digits : List ℕ) → IsSign negative sign → 0 < length digits → IsDigits digits
+behind_letter : (negative : Bool) (sign digits : List ℕ) → IsSign negative sign → 0 < length digits
+    → IsDigits digits
     → Reads Marked (sign ++ digits) (Token Number)
 behind_letter true sign digits minus some are =
     subst (λ s. Reads Marked (s ++ digits) (Token Number)) (sym minus)
@@ -50,7 +52,8 @@ behind_letter false sign digits is some are =
     is
 
 -- what may stand after a mantissa
-exponent_read : (phase : Phase) → piece_of phase ≡ Some (Token Number) → next phase 101 ≡ Some Marked
+exponent_read : (phase : Phase) → piece_of phase ≡ Some (Token Number)
+    → next phase 101 ≡ Some Marked
     → next phase 69 ≡ Some Marked → (text : List ℕ) (power : ℤ) → IsOptionalExponent text power
     → Reads phase text (Token Number)
 exponent_read phase ends small large text power is =
@@ -61,8 +64,12 @@ exponent_read phase ends small large text power is =
     let more = e.sign ++ e.digits in
     let whole : Reads phase (e.letter ++ more) (Token Number) =
     ⊎_elim
-    (λ is_small. subst (λ l. Reads phase (l ++ more) (Token Number)) (sym is_small) (move phase Marked 101 more (Token Number) small read))
-    (λ is_large. subst (λ l. Reads phase (l ++ more) (Token Number)) (sym is_large) (move phase Marked 69 more (Token Number) large read))
+    (λ is_small.
+    subst (λ l. Reads phase (l ++ more) (Token Number)) (sym is_small)
+    (move phase Marked 101 more (Token Number) small read))
+    (λ is_large.
+    subst (λ l. Reads phase (l ++ more) (Token Number)) (sym is_large)
+    (move phase Marked 69 more (Token Number) large read))
     e.a_letter in
     subst (λ t. Reads phase t (Token Number)) (sym e.parts) whole)
     is
@@ -97,8 +104,10 @@ mantissa_read [] point fraction end whole_are are some one_point whole behind =
     (λ none. let empty : length fraction ≡ 0 = ap length none.1 in absurd (omega arith))
     one_point
 mantissa_read (byte ∷ digits) point fraction end whole_are are some one_point whole behind =
-    move Start Whole byte (digits ++ (point ++ (fraction ++ end))) (Token Number) (rw whole_are.0 refl)
-    (behind_digits Whole (λ byte digit. rw digit refl) digits (point ++ (fraction ++ end)) (Token Number) whole_are.1
+    move Start Whole byte (digits ++ (point ++ (fraction ++ end))) (Token Number)
+    (rw whole_are.0 refl)
+    (behind_digits Whole (λ byte digit. rw digit refl) digits (point ++ (fraction ++ end))
+    (Token Number) whole_are.1
     (point_read point fraction end are one_point whole behind))
 
 no_sign : (negative : Bool) (sign rest text : List ℕ) → IsSign negative sign → text ≡ sign ++ rest
@@ -107,7 +116,9 @@ no_sign true sign rest text minus parts unsigned =
     absurd (cc (ap (λ t. is_sign (slice_index t 0)) (parts ∙ ap (λ s. s ++ rest) minus), unsigned))
 no_sign false sign rest text is parts unsigned =
     ⊎_elim
-    (λ plus. absurd (cc (ap (λ t. is_sign (slice_index t 0)) (parts ∙ ap (λ s. s ++ rest) plus), unsigned)))
+    (λ plus.
+    absurd (cc
+    (ap (λ t. is_sign (slice_index t 0)) (parts ∙ ap (λ s. s ++ rest) plus), unsigned)))
     (λ none. none)
     is
 
@@ -115,14 +126,19 @@ number_read : (text : List ℕ) → IsUnsigned text → Reads Start text (Token 
 number_read text is =
     let number = is.0.1 in
     let mantissa = number.a_mantissa in
-    let bare = no_sign is.0.0.negative number.sign (number.mantissa ++ number.exponent) text number.a_sign number.parts is.1 in
-    let parts : text ≡ mantissa.whole ++ (mantissa.point ++ (mantissa.fraction ++ number.exponent)) =
+    let bare =
+    no_sign is.0.0.negative number.sign (number.mantissa ++ number.exponent) text number.a_sign
+    number.parts is.1 in
+    let parts : text ≡ mantissa.whole
+    ++ (mantissa.point ++ (mantissa.fraction ++ number.exponent)) =
     number.parts ∙ ap (λ s. s ++ (number.mantissa ++ number.exponent)) bare
     ∙ ap (λ m. m ++ number.exponent) mantissa.parts
     ∙ append_assoc mantissa.whole (mantissa.point ++ mantissa.fraction) number.exponent
-    ∙ ap (λ t. mantissa.whole ++ t) (append_assoc mantissa.point mantissa.fraction number.exponent) in
+    ∙ ap (λ t. mantissa.whole ++ t)
+    (append_assoc mantissa.point mantissa.fraction number.exponent) in
     subst (λ t. Reads Start t (Token Number)) (sym parts)
-    (mantissa_read mantissa.whole mantissa.point mantissa.fraction number.exponent mantissa.whole_digits
+    (mantissa_read mantissa.whole mantissa.point mantissa.fraction number.exponent
+    mantissa.whole_digits
     mantissa.fraction_digits mantissa.a_digit mantissa.one_point
     (exponent_read Whole refl refl refl number.exponent number.power number.an_exponent)
     (exponent_read Fraction refl refl refl number.exponent number.power number.an_exponent))
@@ -135,7 +151,8 @@ record BehindUnit (rest : List ℕ) : Type 0 where
   pub minutes : Reads Minutes rest (Token Duration)
 
 abbrev UnitRead : Phase → List ℕ → Type 0
-UnitRead phase unit = (rest : List ℕ) → BehindUnit rest → Reads phase (unit ++ rest) (Token Duration)
+UnitRead phase unit = (rest : List ℕ) → BehindUnit rest
+    → Reads phase (unit ++ rest) (Token Duration)
 
 whole_units : AllByRecursion (UnitRead Whole) units
 whole_units = (
@@ -146,7 +163,10 @@ whole_units = (
       λ rest b. b.minutes,
       (
         λ rest b. b.counted,
-        (λ rest b. b.counted, (λ rest b. b.counted, (λ rest b. b.counted, (λ rest b. b.counted, tt)))),
+        (
+          λ rest b. b.counted,
+          (λ rest b. b.counted, (λ rest b. b.counted, (λ rest b. b.counted, tt))),
+        ),
       ),
     ),
   ),
@@ -161,15 +181,20 @@ counting_units = (
       λ rest b. b.minutes,
       (
         λ rest b. b.counted,
-        (λ rest b. b.counted, (λ rest b. b.counted, (λ rest b. b.counted, (λ rest b. b.counted, tt)))),
+        (
+          λ rest b. b.counted,
+          (λ rest b. b.counted, (λ rest b. b.counted, (λ rest b. b.counted, tt))),
+        ),
       ),
     ),
   ),
 )
 
 -- the digits and the unit of a count, from a phase in which no digit was read
-count_read : (from into : Phase) → DigitTo from into → DigitTo into into → AllByRecursion (UnitRead into) units
-    → (digits unit rest : List ℕ) → 0 < length digits → IsDigits digits → IsOneOf units unit → BehindUnit rest
+count_read : (from into : Phase) → DigitTo from into → DigitTo into into
+    → AllByRecursion (UnitRead into) units
+    → (digits unit rest : List ℕ) → 0 < length digits → IsDigits digits → IsOneOf units unit
+    → BehindUnit rest
     → Reads from (digits ++ (unit ++ rest)) (Token Duration)
 count_read from into first stays read [] unit rest some are a_unit behind = absurd (omega arith)
 count_read from into first stays read (byte ∷ digits) unit rest some are a_unit behind =
@@ -190,16 +215,21 @@ counted front rest count behind =
       start = count_read Start Whole (λ byte is. rw is refl) (λ byte is. rw is refl) whole_units
           count.digits count.unit rest count.some count.are count.a_unit behind;
       behind = record {
-        counted = count_read Counted Counting (λ byte is. rw is refl) (λ byte is. rw is refl) counting_units
+        counted =
+            count_read Counted Counting (λ byte is. rw is refl) (λ byte is. rw is refl)
+            counting_units
             count.digits count.unit rest count.some count.are count.a_unit behind;
-        minutes = count_read Minutes Counting (λ byte is. rw is refl) (λ byte is. rw is refl) counting_units
+        minutes =
+            count_read Minutes Counting (λ byte is. rw is refl) (λ byte is. rw is refl)
+            counting_units
             count.digits count.unit rest count.some count.are count.a_unit behind;
       };
     })
 
 duration_read : (text : List ℕ) → IsDuration text → DurationRead text
 duration_read text (one_count count) =
-    subst DurationRead (append-nil text) (counted text [] count (record { counted = refl; minutes = refl }))
+    subst DurationRead (append-nil text)
+    (counted text [] count (record { counted = refl; minutes = refl }))
 duration_read text (more_counts {front = front} {rest = rest} count more) =
     counted front rest count (duration_read rest more).behind
 
@@ -216,7 +246,8 @@ name_read [] is = absurd (cc is)
 name_read (byte ∷ more) is =
     let both = and_parts (begins_name byte) (list_all is_name_byte (byte ∷ more)) is in
     let rest = and_parts (is_name_byte byte) (list_all is_name_byte more) both.1 in
-    move Start Named byte more (Token Name) (rw (name_no_digit byte both.0, both.0) refl) (all_named more rest.1)
+    move Start Named byte more (Token Name) (rw (name_no_digit byte both.0, both.0) refl)
+    (all_named more rest.1)
 
 module _ (quote : ℕ) where
   abbrev inside : Bool → Phase
@@ -235,17 +266,23 @@ module _ (quote : ℕ) where
   inner_read false (byte ∷ more) is =
       go (byte == quote) (byte == 92) refl refl is (inner_read true more) (inner_read false more)
     where
-      go : (q s : Bool) → (byte == quote) ≡ q → (byte == 92) ≡ s → (not q && is_inner quote s more) ≡ true
-          → (is_inner quote true more ≡ true → Reads (Escaped quote) (more ++ quote ∷ []) (Token Str))
-          → (is_inner quote false more ≡ true → Reads (Within quote) (more ++ quote ∷ []) (Token Str))
+      go : (q s : Bool) → (byte == quote) ≡ q → (byte == 92) ≡ s
+          → (not q && is_inner quote s more) ≡ true
+          → (is_inner quote true more ≡ true
+          → Reads (Escaped quote) (more ++ quote ∷ []) (Token Str))
+          → (is_inner quote false more ≡ true
+          → Reads (Within quote) (more ++ quote ∷ []) (Token Str))
           → Reads (Within quote) (byte ∷ (more ++ quote ∷ [])) (Token Str)
       go true s is other inner escaped plain = absurd (cc inner)
       go false true is other inner escaped plain =
-          move (Within quote) (Escaped quote) byte (more ++ quote ∷ []) (Token Str) (rw (is, other) refl) (escaped inner)
+          move (Within quote) (Escaped quote) byte (more ++ quote ∷ []) (Token Str)
+          (rw (is, other) refl) (escaped inner)
       go false false is other inner escaped plain =
-          move (Within quote) (Within quote) byte (more ++ quote ∷ []) (Token Str) (rw (is, other) refl) (plain inner)
+          move (Within quote) (Within quote) byte (more ++ quote ∷ []) (Token Str)
+          (rw (is, other) refl) (plain inner)
 
-quoted_read : (quote : ℕ) (inner : List ℕ) → is_quote quote ≡ true → is_inner quote false inner ≡ true
+quoted_read : (quote : ℕ) (inner : List ℕ) → is_quote quote ≡ true
+    → is_inner quote false inner ≡ true
     → Reads Start (quote ∷ (inner ++ quote ∷ [])) (Token Str)
 quoted_read quote inner is between =
     let opens : next Start quote ≡ Some (Within quote) =
@@ -253,7 +290,8 @@ quoted_read quote inner is between =
     (λ double. subst (λ q. next Start q ≡ Some (Within q)) (sym (eqb-true quote 34 double)) refl)
     (λ single. subst (λ q. next Start q ≡ Some (Within q)) (sym (eqb-true quote 39 single)) refl)
     (or_cases (quote == 34) (quote == 39) is) in
-    move Start (Within quote) quote (inner ++ quote ∷ []) (Token Str) opens (inner_read quote false inner between)
+    move Start (Within quote) quote (inner ++ quote ∷ []) (Token Str) opens
+    (inner_read quote false inner between)
 
 -- ---- marks and gaps
 
@@ -314,14 +352,17 @@ blank_no_digit byte is = grind (arith, nat_tests)
 blank_no_name : (byte : ℕ) → is_blank byte ≡ true → begins_name byte ≡ false
 blank_no_name byte is = grind (arith, nat_tests)
 
-blanks_read : (text : List ℕ) → 0 < length text → list_all is_blank text ≡ true → Reads Start text Gap
+blanks_read : (text : List ℕ) → 0 < length text → list_all is_blank text ≡ true
+    → Reads Start text Gap
 blanks_read [] some are = absurd (omega arith)
 blanks_read (byte ∷ more) some are =
     let both = and_parts (is_blank byte) (list_all is_blank more) are in
-    move Start Blanks byte more Gap (rw (blank_no_digit byte both.0, blank_no_name byte both.0, both.0) refl)
+    move Start Blanks byte more Gap
+    (rw (blank_no_digit byte both.0, blank_no_name byte both.0, both.0) refl)
     (all_blank more both.1)
 
-comment_read : (line : List ℕ) → list_all (λ byte. not (byte == 10)) line ≡ true → Reads Comment line Gap
+comment_read : (line : List ℕ) → list_all (λ byte. not (byte == 10)) line ≡ true
+    → Reads Comment line Gap
 comment_read [] are = refl
 comment_read (byte ∷ more) are =
     let both = and_parts (not (byte == 10)) (list_all (λ byte. not (byte == 10)) more) are in
@@ -332,10 +373,14 @@ read_from_piece (Token Name) text is = name_read text is
 read_from_piece (Token Number) text is = number_read text is
 read_from_piece (Token Duration) text is = (duration_read text is).start
 read_from_piece (Token Str) text is =
-    subst (λ t. Reads Start t (Token Str)) (sym is.parts) (quoted_read is.quote is.inner is.a_quote is.between)
-read_from_piece (Token Mark) text is = each_of (λ t. Reads Start t (Token Mark)) marks text all_marks is
+    subst (λ t. Reads Start t (Token Str)) (sym is.parts)
+    (quoted_read is.quote is.inner is.a_quote is.between)
+read_from_piece (Token Mark) text is =
+    each_of (λ t. Reads Start t (Token Mark)) marks text all_marks is
 read_from_piece Gap text is =
     ⊎_elim
     (λ blanks. blanks_read text blanks.0 blanks.1)
-    (λ comment. subst (λ t. Reads Start t Gap) (sym comment.parts) (comment_read comment.line comment.one_line))
+    (λ comment.
+    subst (λ t. Reads Start t Gap) (sym comment.parts)
+    (comment_read comment.line comment.one_line))
     is

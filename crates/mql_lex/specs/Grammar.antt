@@ -27,7 +27,8 @@ IsUnsigned text = IsAnyNumber text × (is_sign (slice_index text 0) ≡ false)
 -- unit ::= 'ms' | 's' | 'm' | 'h' | 'd' | 'w' | 'y' | 'i'
 abbrev pub units : List (List ℕ)
 units =
-    codes "ms" ∷ codes "s" ∷ codes "m" ∷ codes "h" ∷ codes "d" ∷ codes "w" ∷ codes "y" ∷ codes "i" ∷ []
+    codes "ms" ∷ codes "s" ∷ codes "m" ∷ codes "h" ∷ codes "d" ∷ codes "w" ∷ codes "y" ∷ codes "i"
+    ∷ []
 
 -- count ::= digit+ unit
 pub record IsCount (text : List ℕ) : Type 0 where

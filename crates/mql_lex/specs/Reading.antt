@@ -15,7 +15,8 @@ use Rattle.mql_lex.specs.declared.token.Token.{Token as TokenOf}
 abbrev pub reach : Phase → List ℕ → ℕ × Phase
 reach phase [] = (0, phase)
 reach phase (byte ∷ more) =
-    option_map_or (λ behind. (suc (reach behind more).0, (reach behind more).1)) (next phase byte) (0, phase)
+    option_map_or (λ behind. (suc (reach behind more).0, (reach behind more).1)) (next phase byte)
+    (0, phase)
 
 -- the piece that ends after so many bytes of a text, and its length
 abbrev pub ended : List ℕ → ℕ → Option Piece → Option (Piece × ℕ)

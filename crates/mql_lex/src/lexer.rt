@@ -27,7 +27,8 @@ pub fn tokens(alloc: Global, text: &str) -> Result<List<Token>, LexFault>
     ensures order { IfOk result (AreInOrder 0) }
 
     // When each error comes.
-    ensures too_long { (n : ℕ) → (result ≡ Err (TooLong n)) ↔ ((16384 < length text.now) × (n ≡ length text.now)) }
+    ensures too_long { (n : ℕ)
+        → (result ≡ Err (TooLong n)) ↔ ((16384 < length text.now) × (n ≡ length text.now)) }
     ensures bad_token { (at : ℕ) → result ≡ Err (BadToken at) → IsBad text.now at }
 
     // The same as a function of the text, where memory doesn't run out.

@@ -23,9 +23,12 @@ rest_of_filter at = mark_at (codes "=") at ∷ string_at at ∷ close_at at ∷ 
 
 abbrev with_empty : Gathered → List ℕ → List (List Item)
 with_empty found name =
-    found.lists ++ (found.items ++ filter_item (record { name = name; op = Equal }) (value_of (codes "\"\"")) ∷ []) ∷ []
+    found.lists
+    ++ (found.items
+    ++ filter_item (record { name = name; op = Equal }) (value_of (codes "\"\"")) ∷ []) ∷ []
 
-goes_on : (place : Place) (found : Gathered) (at : ℕ) (rest : List Word) → GoesOn braces_step (reader found place) at rest
+goes_on : (place : Place) (found : Gathered) (at : ℕ) (rest : List Word)
+    → GoesOn braces_step (reader found place) at rest
 goes_on First found at rest = record {
   more = close_at at ∷ [];
   value = found.lists ++ found.items ∷ [];
@@ -46,7 +49,8 @@ goes_on AfterComma found at rest = record {
 }
 goes_on Wanted found at rest = record {
   more = name_at at ∷ close_at at ∷ [];
-  value = found.lists ++ (found.items ++ named_item (record { at = at; name = codes "a"; free = true }) ∷ []) ∷ [];
+  value = found.lists
+      ++ (found.items ++ named_item (record { at = at; name = codes "a"; free = true }) ∷ []) ∷ [];
   places = (refl, (refl, tt));
   ends = rw (name_word at, curly_mark at) refl;
 }

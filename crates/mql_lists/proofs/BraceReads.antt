@@ -22,7 +22,8 @@ abbrev pub reader : Gathered → Place → BracesReader
 reader found place = record { found = found; place = place }
 
 -- what is read from a place
-abbrev pub reads : List (List Item) → List Item → Place → List Word → Option (List (List Item) × List Word)
+abbrev pub reads : List (List Item) → List Item → Place → List Word
+    → Option (List (List Item) × List Word)
 reads lists items place text = leads braces_step (reader (gathered lists items) place) text
 
 -- ---- one item
@@ -46,9 +47,11 @@ same_turn found head Either free is = rw free refl
 same_turn found head EndCurly free is = rw free refl
 same_turn found head _ free is = absurd (cc is)
 
-name_item : (lists : List (List Item)) (items : List Item) (head : Heading) (behind : List Word) → head.free ≡ true
+name_item : (lists : List (List Item)) (items : List Item) (head : Heading) (behind : List Word)
+    → head.free ≡ true
     → Follows behind
-    → reads lists items (AtName head) behind ≡ reads lists (items ++ named_item head ∷ []) BehindItem behind
+    → reads lists items (AtName head) behind
+    ≡ reads lists (items ++ named_item head ∷ []) BehindItem behind
 name_item lists items head [] free after = absurd after
 name_item lists items head (w ∷ rest) free after =
     ap (λ turn. behind_step turn (λ next. leads braces_step next rest) rest)
@@ -61,13 +64,15 @@ item_wanted lists items (a_filter {op = op} name sign value label compares quote
     rw (label_role name label, role_compare sign op compares, role_value value quoted) refl
 item_wanted lists items (a_name {rest = behind} name free) after =
     let head : Heading = record { at = name.at; name = name.text; free = true } in
-    let named : reads lists items Wanted (name ∷ behind) ≡ reads lists items (AtName head) behind = rw (role_free name free) refl in
+    let named : reads lists items Wanted (name ∷ behind) ≡ reads lists items (AtName head) behind =
+    rw (role_free name free) refl in
     named ∙ name_item lists items head behind refl after
 
 item_comma : (lists : List (List Item)) (items : List Item) {text behind : List Word} {item : Item}
     → OneItem text behind item → Follows behind
     → reads lists items AfterComma text ≡ reads lists (items ++ item ∷ []) BehindItem behind
-item_comma lists items (a_filter {rest = behind} {op = op} name sign value label compares quoted) after =
+item_comma lists items (a_filter {rest = behind} {op = op} name sign value label compares quoted)
+    after =
     by_role (word_role name) refl (label_role name label)
     ∙ item_wanted lists items (a_filter name sign value label compares quoted) after
   where
@@ -80,7 +85,8 @@ item_comma lists items (a_filter {rest = behind} {op = op} name sign value label
     by_role _ role is = absurd (cc is)
 item_comma lists items (a_name {rest = behind} name free) after =
     let head : Heading = record { at = name.at; name = name.text; free = true } in
-    let named : reads lists items AfterComma (name ∷ behind) ≡ reads lists items (AtName head) behind = rw (role_free name free) refl in
+    let named : reads lists items AfterComma (name ∷ behind)
+    ≡ reads lists items (AtName head) behind = rw (role_free name free) refl in
     named ∙ name_item lists items head behind refl after
 
 -- ---- a list
@@ -90,28 +96,37 @@ abbrev Same : List Word → Type 0
 Same behind = (lists : List (List Item)) (items : List Item)
     → reads lists items AfterComma behind ≡ reads lists items BehindItem behind
 
-record ListRead (lists : List (List Item)) (items : List Item) (text behind : List Word) (list : List Item) : Type 0 where
+record ListRead (lists : List (List Item)) (items : List Item) (text behind : List Word)
+    (list : List Item) : Type 0 where
   wanted : reads lists items Wanted text ≡ reads lists (items ++ list) BehindItem behind
   comma : reads lists items AfterComma text ≡ reads lists (items ++ list) BehindItem behind
 
-list_read : (lists : List (List Item)) (items : List Item) {text behind : List Word} {list : List Item}
-    → OneList text behind list → Follows behind → Same behind → ListRead lists items text behind list
+list_read :
+    (lists : List (List Item)) (items : List Item) {text behind : List Word} {list : List Item}
+    → OneList text behind list → Follows behind → Same behind
+    → ListRead lists items text behind list
 list_read lists items (last_item one) after same =
     record { wanted = item_wanted lists items one after; comma = item_comma lists items one after }
 list_read lists items (last_comma {rest = behind} {item = item} comma is one) after same =
     let next : Follows (comma ∷ behind) = ap follows (role_next comma is) in
     let all = items ++ item ∷ [] in
-    let further : reads lists all BehindItem (comma ∷ behind) ≡ reads lists all AfterComma behind = rw (role_next comma is) refl in
+    let further : reads lists all BehindItem (comma ∷ behind) ≡ reads lists all AfterComma behind =
+    rw (role_next comma is) refl in
     record {
       wanted = item_wanted lists items one next ∙ further ∙ same lists all;
       comma = item_comma lists items one next ∙ further ∙ same lists all;
     }
-list_read lists items (next_item {more = more} {rest = behind} {item = item} {items = list} comma is one rest) after same =
+list_read lists items
+    (next_item {more = more} {rest = behind} {item = item} {items = list} comma is one rest) after
+    same =
     let next : Follows (comma ∷ more) = ap follows (role_next comma is) in
     let all = items ++ item ∷ [] in
-    let further : reads lists all BehindItem (comma ∷ more) ≡ reads lists all AfterComma more = rw (role_next comma is) refl in
-    let behind_them : reads lists all AfterComma more ≡ reads lists (items ++ item ∷ list) BehindItem behind =
-    (list_read lists all rest after same).comma ∙ ap (λ i. reads lists i BehindItem behind) (append_assoc items (item ∷ []) list) in
+    let further : reads lists all BehindItem (comma ∷ more) ≡ reads lists all AfterComma more =
+    rw (role_next comma is) refl in
+    let behind_them : reads lists all AfterComma more
+    ≡ reads lists (items ++ item ∷ list) BehindItem behind =
+    (list_read lists all rest after same).comma
+    ∙ ap (λ i. reads lists i BehindItem behind) (append_assoc items (item ∷ []) list) in
     record {
       wanted = item_wanted lists items one next ∙ further ∙ behind_them;
       comma = item_comma lists items one next ∙ further ∙ behind_them;
@@ -127,12 +142,14 @@ item_begins : {text behind : List Word} {item : Item} → OneItem text behind it
 item_begins (a_filter name sign value label compares quoted) = label_role name label
 item_begins (a_name name free) = ap is_label (role_free name free)
 
-list_begins : {text behind : List Word} {list : List Item} → OneList text behind list → BeginsLabel text
+list_begins : {text behind : List Word} {list : List Item} → OneList text behind list
+    → BeginsLabel text
 list_begins (last_item one) = item_begins one
 list_begins (last_comma comma is one) = item_begins one
 list_begins (next_item comma is one rest) = item_begins one
 
-lists_begin : {text rest : List Word} {lists : List (List Item)} → SomeLists text rest lists → BeginsLabel text
+lists_begin : {text rest : List Word} {lists : List (List Item)} → SomeLists text rest lists
+    → BeginsLabel text
 lists_begin (last_list close is one) = list_begins one
 lists_begin (next_list between is one more) = list_begins one
 
@@ -144,14 +161,16 @@ or_turn found name w Either is = refl
 or_turn found name w Reserved is = refl
 or_turn found name w _ is = absurd (cc is)
 
-or_parts : (lists : List (List Item)) (items : List Item) (name : List ℕ) (text : List Word) → BeginsLabel text
+or_parts : (lists : List (List Item)) (items : List Item) (name : List ℕ) (text : List Word)
+    → BeginsLabel text
     → reads lists items (AfterOr name) text ≡ reads (lists ++ items ∷ []) [] Wanted text
 or_parts lists items name [] begins = absurd begins
 or_parts lists items name (w ∷ rest) begins =
     ap (λ turn. behind_step turn (λ next. leads braces_step next rest) rest)
     (or_turn (gathered lists items) name w (word_role w) begins)
 
-first_turn : (found : Gathered) (w : Word) (r : Role) → is_label r ≡ true → at_first found w r ≡ begins_item found w r
+first_turn : (found : Gathered) (w : Word) (r : Role) → is_label r ≡ true
+    → at_first found w r ≡ begins_item found w r
 first_turn found w Free is = refl
 first_turn found w Either is = refl
 first_turn found w Reserved is = refl
@@ -164,19 +183,26 @@ first_wanted lists items (w ∷ rest) begins =
     ap (λ turn. behind_step turn (λ next. leads braces_step next rest) rest)
     (first_turn (gathered lists items) w (word_role w) begins)
 
-lists_read : (lists : List (List Item)) {text rest : List Word} {more : List (List Item)} → SomeLists text rest more
+lists_read : (lists : List (List Item)) {text rest : List Word} {more : List (List Item)}
+    → SomeLists text rest more
     → reads lists [] Wanted text ≡ Some (lists ++ more, rest)
 lists_read lists (last_list {rest = rest} {items = items} close is one) =
     let follows_it : Follows (close ∷ rest) = ap follows (role_curly close is) in
     let same : Same (close ∷ rest) = λ lists items. rw (role_curly close is) refl in
-    let ends : reads lists items BehindItem (close ∷ rest) ≡ Some (lists ++ items ∷ [], rest) = rw (role_curly close is) refl in
+    let ends : reads lists items BehindItem (close ∷ rest) ≡ Some (lists ++ items ∷ [], rest) =
+    rw (role_curly close is) refl in
     (list_read lists [] one follows_it same).wanted ∙ ends
-lists_read lists (next_list {more = behind} {rest = rest} {items = items} {lists = more} between is one others) =
+lists_read lists
+    (next_list {more = behind} {rest = rest} {items = items} {lists = more} between is one others) =
     let follows_it : Follows (between ∷ behind) = ap follows (role_either between is) in
     let begins : BeginsLabel behind = lists_begin others in
-    let same : Same (between ∷ behind) = λ lists items. rw (role_either between is) (or_parts lists items between.text behind begins) in
-    let parts : reads lists items BehindItem (between ∷ behind) ≡ reads (lists ++ items ∷ []) [] Wanted behind = rw (role_either between is) refl in
-    (list_read lists [] one follows_it same).wanted ∙ parts ∙ lists_read (lists ++ items ∷ []) others
+    let same : Same (between ∷ behind) =
+    λ lists items.
+    rw (role_either between is) (or_parts lists items between.text behind begins) in
+    let parts : reads lists items BehindItem (between ∷ behind)
+    ≡ reads (lists ++ items ∷ []) [] Wanted behind = rw (role_either between is) refl in
+    (list_read lists [] one follows_it same).wanted ∙ parts
+    ∙ lists_read (lists ++ items ∷ []) others
     ∙ ap (λ v. Some (v, rest)) (append_assoc lists (items ∷ []) more)
 
 pub braces_read : (text rest : List Word) (lists : List (List Item)) → Braces text rest lists
@@ -186,4 +212,5 @@ braces_read text rest lists are = go are
     go : {text rest : List Word} {lists : List (List Item)} → Braces text rest lists
         → leads braces_step braces_start text ≡ Some (lists, rest)
     go (no_items close is) = rw (role_curly close is) refl
-    go (some_lists {text = text} are) = first_wanted [] [] text (lists_begin are) ∙ lists_read [] are
+    go (some_lists {text = text} are) = first_wanted [] [] text (lists_begin are)
+        ∙ lists_read [] are

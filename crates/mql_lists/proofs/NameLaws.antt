@@ -17,7 +17,8 @@ reader wanted names = record { names = names; wanted = wanted }
 
 -- ---- what the grammar says is read
 
-read : (before : List (List ℕ)) {text rest : List Word} {names : List (List ℕ)} → Names text rest names
+read : (before : List (List ℕ)) {text rest : List Word} {names : List (List ℕ)}
+    → Names text rest names
     → leads names_step (reader true before) text ≡ Some (before ++ names, rest)
 read before (no_names {rest = rest} close is) =
     rw (role_round close is) (ap (λ v. Some (v, rest)) (sym (append-nil before)))
@@ -32,11 +33,14 @@ read before (next_name {text = text} {rest = rest} {names = names} name comma la
 
 -- what may stand after a name
 data BehindName : List Word → List Word → List (List ℕ) → Type 0 where
-  closed : {rest : List Word} (close : Word) → IsA CloseRound close → BehindName (close ∷ rest) rest []
-  parted : {text rest : List Word} {names : List (List ℕ)} (comma : Word) → IsA Comma comma → Names text rest names
+  closed : {rest : List Word} (close : Word) → IsA CloseRound close
+      → BehindName (close ∷ rest) rest []
+  parted : {text rest : List Word} {names : List (List ℕ)} (comma : Word) → IsA Comma comma
+      → Names text rest names
       → BehindName (comma ∷ text) rest names
 
-with_name : {text rest : List Word} {names : List (List ℕ)} (name : Word) → IsLabel name → BehindName text rest names
+with_name : {text rest : List Word} {names : List (List ℕ)} (name : Word) → IsLabel name
+    → BehindName text rest names
     → Names (name ∷ text) rest (name.text ∷ names)
 with_name name label (closed close is) = last_name name close label is
 with_name name label (parted comma is more) = next_name name comma label is more
@@ -45,7 +49,8 @@ abbrev Tail : Bool → List Word → List Word → List (List ℕ) → Type 0
 Tail true text rest names = Names text rest names
 Tail false text rest names = BehindName text rest names
 
-record Found (wanted : Bool) (before : List (List ℕ)) (text rest : List Word) (all : List (List ℕ)) : Type 0 where
+record Found (wanted : Bool) (before : List (List ℕ)) (text rest : List Word)
+    (all : List (List ℕ)) : Type 0 where
   names : List (List ℕ)
   parts : all ≡ before ++ names
   are : Tail wanted text rest names
@@ -59,7 +64,8 @@ found_label before all w more rest label behind = record {
 }
 
 found_end : (wanted : Bool) (before all : List (List ℕ)) (w : Word) (more rest : List Word)
-    → ((front : List Word) → Tail wanted (w ∷ front) front []) → answer before more ≡ answer all rest
+    → ((front : List Word) → Tail wanted (w ∷ front) front [])
+    → answer before more ≡ answer all rest
     → Found wanted before (w ∷ more) rest all
 found_end wanted before all w more rest tail is =
     let same = same_parts before all more rest is in
@@ -69,23 +75,32 @@ found_end wanted before all w more rest tail is =
       are = subst (λ r. Tail wanted (w ∷ more) r []) same.1 (tail more);
     }
 
-from_wanted : (before all : List (List ℕ)) (w : Word) (more rest : List Word) (r : Role) → word_role w ≡ r
-    → ((names : List (List ℕ)) → leads names_step (reader false names) more ≡ Some (all, rest) → Found false names more rest all)
-    → behind_step (names_at true before w.text r) (λ next. leads names_step next more) more ≡ Some (all, rest)
+from_wanted : (before all : List (List ℕ)) (w : Word) (more rest : List Word) (r : Role)
+    → word_role w ≡ r
+    → ((names : List (List ℕ)) → leads names_step (reader false names) more ≡ Some (all, rest)
+    → Found false names more rest all)
+    → behind_step (names_at true before w.text r) (λ next. leads names_step next more) more
+    ≡ Some (all, rest)
     → Found true before (w ∷ more) rest all
 from_wanted before all w more rest Free role behind is =
-    found_label before all w more rest (label_says w Free role refl) (behind (before ++ w.text ∷ []) is)
+    found_label before all w more rest (label_says w Free role refl)
+    (behind (before ++ w.text ∷ []) is)
 from_wanted before all w more rest Either role behind is =
-    found_label before all w more rest (label_says w Either role refl) (behind (before ++ w.text ∷ []) is)
+    found_label before all w more rest (label_says w Either role refl)
+    (behind (before ++ w.text ∷ []) is)
 from_wanted before all w more rest Reserved role behind is =
-    found_label before all w more rest (label_says w Reserved role refl) (behind (before ++ w.text ∷ []) is)
+    found_label before all w more rest (label_says w Reserved role refl)
+    (behind (before ++ w.text ∷ []) is)
 from_wanted before all w more rest EndRound role behind is =
     found_end true before all w more rest (λ front. no_names w (round_says w role)) is
 from_wanted before all w more rest _ role behind is = absurd (cc is)
 
-from_behind : (before all : List (List ℕ)) (w : Word) (more rest : List Word) (r : Role) → word_role w ≡ r
-    → ((names : List (List ℕ)) → leads names_step (reader true names) more ≡ Some (all, rest) → Found true names more rest all)
-    → behind_step (names_at false before w.text r) (λ next. leads names_step next more) more ≡ Some (all, rest)
+from_behind : (before all : List (List ℕ)) (w : Word) (more rest : List Word) (r : Role)
+    → word_role w ≡ r
+    → ((names : List (List ℕ)) → leads names_step (reader true names) more ≡ Some (all, rest)
+    → Found true names more rest all)
+    → behind_step (names_at false before w.text r) (λ next. leads names_step next more) more
+    ≡ Some (all, rest)
     → Found false before (w ∷ more) rest all
 from_behind before all w more rest Next role behind is =
     let found = behind before is in
@@ -95,14 +110,18 @@ from_behind before all w more rest EndRound role behind is =
 from_behind before all w more rest _ role behind is = absurd (cc is)
 
 from : (wanted : Bool) (before all : List (List ℕ)) (text rest : List Word)
-    → leads names_step (reader wanted before) text ≡ Some (all, rest) → Found wanted before text rest all
+    → leads names_step (reader wanted before) text ≡ Some (all, rest)
+    → Found wanted before text rest all
 from wanted before all [] rest is = absurd (cc is)
 from true before all (w ∷ more) rest is =
-    from_wanted before all w more rest (word_role w) refl (λ names. from false names all more rest) is
+    from_wanted before all w more rest (word_role w) refl (λ names. from false names all more rest)
+    is
 from false before all (w ∷ more) rest is =
-    from_behind before all w more rest (word_role w) refl (λ names. from true names all more rest) is
+    from_behind before all w more rest (word_role w) refl (λ names. from true names all more rest)
+    is
 
-only : (text rest : List Word) (names : List (List ℕ)) → leads names_step names_start text ≡ Some (names, rest)
+only : (text rest : List Word) (names : List (List ℕ))
+    → leads names_step names_start text ≡ Some (names, rest)
     → Names text rest names
 only text rest names is =
     let found = from true [] names text rest is in

@@ -130,7 +130,8 @@ in_table p (row ∷ rows) is other all last =
 name_label : (text : List ℕ) → is_label (role_of (class_of_name text)) ≡ true
 unfolding class_of_name
 name_label text =
-    in_table (λ c. is_label (role_of c)) reserved_words (str_eq_ignore_ascii_case text) Identifier refl refl
+    in_table (λ c. is_label (role_of c)) reserved_words (str_eq_ignore_ascii_case text) Identifier
+    refl refl
 
 mark_no_label : (text : List ℕ) → not (is_label (role_of (class_of_mark text))) ≡ true
 unfolding class_of_mark
@@ -146,7 +147,8 @@ pub label_role : (w : Word) → IsLabel w → is_label (word_role w) ≡ true
 unfolding word_role
 label_role w is = rw is (name_label w.text)
 
-kind_label : (kind : TokenKind) (text : List ℕ) → is_label (role_of (class_of_kind kind text)) ≡ true → kind ≡ Name
+kind_label : (kind : TokenKind) (text : List ℕ)
+    → is_label (role_of (class_of_kind kind text)) ≡ true → kind ≡ Name
 kind_label Name text is = refl
 kind_label Mark text is = absurd (cc (is, mark_no_label text))
 kind_label _ text is = absurd (cc is)
@@ -159,8 +161,10 @@ label_no_value : (r : Role) → is_label r ≡ true → r ≡ Value → ⊥
 label_no_value Value label is = cc label
 label_no_value _ label is = cc is
 
-kind_value : (kind : TokenKind) (text : List ℕ) → role_of (class_of_kind kind text) ≡ Value → kind ≡ Str
-kind_value Name text is = absurd (label_no_value (role_of (class_of_name text)) (name_label text) is)
+kind_value : (kind : TokenKind) (text : List ℕ) → role_of (class_of_kind kind text) ≡ Value
+    → kind ≡ Str
+kind_value Name text is =
+    absurd (label_no_value (role_of (class_of_name text)) (name_label text) is)
 kind_value Str text is = refl
 kind_value Mark text is =
     let yes : is_value (role_of (class_of_mark text)) ≡ true = ap is_value is in

@@ -188,7 +188,8 @@ fn begins_list(
 ) -> Result<Turn, AllocError>
     requires stands { StandsIn text.now token }
     requires role { role ≡ word_role (word_of text.now token) }
-    ensures { IfOk result (λ turn. turn ≡ item_begun (list_more found) (word_of text.now token) role) }
+    ensures { IfOk result
+        (λ turn. turn ≡ item_begun (list_more found) (word_of text.now token) role) }
 {
     let found = with_list(alloc, found)?;
     begins_item(alloc, found, text, token, role)

@@ -14,22 +14,28 @@ use Rattle.mql_lists.proofs.BraceLaws.{braces_law}
 use Rattle.mql_lists.proofs.NameLaws.{names_law}
 use Rattle.mql_lists.proofs.ParamLaws.{params_law}
 
-pub names_read : {text rest : List Word} {v : List (List ℕ)} → Names text rest v → leads names_step names_start text ≡ Some (v, rest)
+pub names_read : {text rest : List Word} {v : List (List ℕ)} → Names text rest v
+    → leads names_step names_start text ≡ Some (v, rest)
 names_read {text} {rest} {v} x = names_law.read text rest v x
 
-pub params_read : {text rest : List Word} {v : List Param} → Params text rest v → leads params_step params_start text ≡ Some (v, rest)
+pub params_read : {text rest : List Word} {v : List Param} → Params text rest v
+    → leads params_step params_start text ≡ Some (v, rest)
 params_read {text} {rest} {v} x = params_law.read text rest v x
 
-pub braces_read : {text rest : List Word} {v : List (List Item)} → Braces text rest v → leads braces_step braces_start text ≡ Some (v, rest)
+pub braces_read : {text rest : List Word} {v : List (List Item)} → Braces text rest v
+    → leads braces_step braces_start text ≡ Some (v, rest)
 braces_read {text} {rest} {v} x = braces_law.read text rest v x
 
-pub names_from : {text rest : List Word} {v : List (List ℕ)} → leads names_step names_start text ≡ Some (v, rest) → Names text rest v
+pub names_from : {text rest : List Word} {v : List (List ℕ)}
+    → leads names_step names_start text ≡ Some (v, rest) → Names text rest v
 names_from {text} {rest} {v} x = names_law.only text rest v x
 
-pub params_from : {text rest : List Word} {v : List Param} → leads params_step params_start text ≡ Some (v, rest) → Params text rest v
+pub params_from : {text rest : List Word} {v : List Param}
+    → leads params_step params_start text ≡ Some (v, rest) → Params text rest v
 params_from {text} {rest} {v} x = params_law.only text rest v x
 
-pub braces_from : {text rest : List Word} {v : List (List Item)} → leads braces_step braces_start text ≡ Some (v, rest) → Braces text rest v
+pub braces_from : {text rest : List Word} {v : List (List Item)}
+    → leads braces_step braces_start text ≡ Some (v, rest) → Braces text rest v
 braces_from {text} {rest} {v} x = braces_law.only text rest v x
 
 pub names_viable : (at : ℕ) (s : NamesReader) → GoesOn names_step s at []

@@ -189,19 +189,27 @@ ended _ t = t
 -- the frames that an operator of this level leaves, and the expression that stands in them
 abbrev pub reduce : ℕ → List Frame → Tree → Reduced
 reduce k [] t = record { frames = []; tree = t }
-reduce k (f ∷ fs) t = if ends k f then reduce k fs (ended f t) else record { frames = f ∷ fs; tree = t }
+reduce k (f ∷ fs) t = if ends k f then reduce k fs (ended f t)
+    else record { frames = f ∷ fs; tree = t }
 
 -- after an operator
 abbrev pub operate : Reduced → (here : ℕ) → Op → State
-operate r here op = at r.frames (operated (record { at = here; op = op; truth = false; operand = r.tree }))
+operate r here op =
+    at r.frames (operated (record { at = here; op = op; truth = false; operand = r.tree }))
 
 -- a call with one more argument
 abbrev pub one_more : Call → Tree → Call
-one_more c t = record { at = c.at; name = c.name; args = c.args ++ t ∷ []; before = c.before; after = c.after }
+one_more c t =
+    record { at = c.at; name = c.name; args = c.args ++ t ∷ []; before = c.before; after = c.after }
 
 -- a `with` with one more template
 abbrev pub with_one_more : Scope → Head → List Param → Tree → Scope
-with_one_more s h ps t = record { at = s.at; templates = s.templates ++ record { at = h.at; name = h.name; params = ps; body = t } ∷ [] }
+with_one_more s h ps t =
+    record {
+      at = s.at;
+      templates = s.templates
+          ++ record { at = h.at; name = h.name; params = ps; body = t } ∷ [];
+    }
 
 -- after `)`
 abbrev pub close_frame : List Frame → Tree → Result State Wrong
@@ -290,7 +298,8 @@ head_of w = record { at = w.at; name = w.text }
 -- where an expression is wanted
 abbrev pub by_wanted : (len : ℕ) → List Frame → Word → Class → Result State Wrong
 by_wanted len fs w Class.Numeral =
-    only (fits (nat_lt w.at len) (is_some (number_of w.text))) NumberTooWide (at fs (primary (number w.at (or_zero (number_of w.text)))))
+    only (fits (nat_lt w.at len) (is_some (number_of w.text))) NumberTooWide
+    (at fs (primary (number w.at (or_zero (number_of w.text)))))
 by_wanted len fs w Class.Quoted = Ok (at fs (primary (string w.at (value_of w.text))))
 by_wanted len fs w Class.Identifier = Ok (at fs (named (head_of w)))
 by_wanted len fs w Class.OpenCurly = Ok (at fs (in_braces w.at None braces_start))
@@ -306,8 +315,10 @@ abbrev pub measured : (len : ℕ) → Word → State → Result State Wrong
 measured len w s = only (fits (nat_lt w.at len) (is_short (length_of w.text))) NumberTooWide s
 
 -- after `[`
-abbrev pub by_window_wanted : (len : ℕ) → List Frame → (place : ℕ) → Tree → Word → Class → Result State Wrong
-by_window_wanted len fs place t w Class.Time = measured len w (at fs (window_read place t (ahead (length_of w.text))))
+abbrev pub by_window_wanted : (len : ℕ) → List Frame → (place : ℕ) → Tree → Word → Class
+    → Result State Wrong
+by_window_wanted len fs place t w Class.Time =
+    measured len w (at fs (window_read place t (ahead (length_of w.text))))
 by_window_wanted len fs place t w _ = Err Unexpected
 
 -- after `[` and a duration
@@ -316,14 +327,19 @@ by_window_read fs place t span Class.CloseSquare = Ok (at fs (windowed place t s
 by_window_read fs place t span _ = Err Unexpected
 
 -- after `offset`
-abbrev pub by_offset_wanted : (len : ℕ) → List Frame → (place : ℕ) → Tree → Option Span → Word → Class → Result State Wrong
-by_offset_wanted len fs place t window w Class.Time = measured len w (at fs (complete (ranged place t window (Some (ahead (length_of w.text))))))
-by_offset_wanted len fs place t window w (Class.Operator Op.Sub) = Ok (at fs (offset_back place t window))
+abbrev pub by_offset_wanted : (len : ℕ) → List Frame → (place : ℕ) → Tree → Option Span → Word
+    → Class → Result State Wrong
+by_offset_wanted len fs place t window w Class.Time =
+    measured len w (at fs (complete (ranged place t window (Some (ahead (length_of w.text))))))
+by_offset_wanted len fs place t window w (Class.Operator Op.Sub) =
+    Ok (at fs (offset_back place t window))
 by_offset_wanted len fs place t window w _ = Err Unexpected
 
 -- after `offset -`
-abbrev pub by_offset_back : (len : ℕ) → List Frame → (place : ℕ) → Tree → Option Span → Word → Class → Result State Wrong
-by_offset_back len fs place t window w Class.Time = measured len w (at fs (complete (ranged place t window (Some (back (length_of w.text))))))
+abbrev pub by_offset_back : (len : ℕ) → List Frame → (place : ℕ) → Tree → Option Span → Word → Class
+    → Result State Wrong
+by_offset_back len fs place t window w Class.Time =
+    measured len w (at fs (complete (ranged place t window (Some (back (length_of w.text))))))
 by_offset_back len fs place t window w _ = Err Unexpected
 
 -- after an operator with all that belongs to it
@@ -331,12 +347,16 @@ abbrev pub joining : List Frame → Joint → Matching → List Frame
 joining fs j m = in_operator j m ∷ fs
 
 -- after `group_left` or `group_right`
-abbrev pub by_many : (len : ℕ) → List Frame → Joint → MatchKind → List (List ℕ) → Many → Word → Class → Result State Wrong
-by_many len fs j kind names side w Class.OpenRound = Ok (at fs (in_names (taken_over j kind names side) names_start))
-by_many len fs j kind names side w c = by_wanted len (joining fs j (matching kind names side [])) w c
+abbrev pub by_many : (len : ℕ) → List Frame → Joint → MatchKind → List (List ℕ) → Many → Word
+    → Class → Result State Wrong
+by_many len fs j kind names side w Class.OpenRound =
+    Ok (at fs (in_names (taken_over j kind names side) names_start))
+by_many len fs j kind names side w c =
+    by_wanted len (joining fs j (matching kind names side [])) w c
 
 -- after the names of `on` or `ignoring`
-abbrev pub by_matched : (len : ℕ) → List Frame → Joint → MatchKind → List (List ℕ) → Word → Class → Result State Wrong
+abbrev pub by_matched : (len : ℕ) → List Frame → Joint → MatchKind → List (List ℕ) → Word → Class
+    → Result State Wrong
 by_matched len fs j kind names w (Class.Joining side) = Ok (at fs (many_read j kind names side))
 by_matched len fs j kind names w c = by_wanted len (joining fs j (matching kind names One [])) w c
 
@@ -351,7 +371,8 @@ true_joint j = record { at = j.at; op = j.op; truth = true; operand = j.operand 
 
 -- after an operator
 abbrev pub by_operated : (len : ℕ) → List Frame → Joint → Word → Class → Result State Wrong
-by_operated len fs j w Class.Truth = only (is_comparison j.op) Unexpected (at fs (compared (true_joint j)))
+by_operated len fs j w Class.Truth =
+    only (is_comparison j.op) Unexpected (at fs (compared (true_joint j)))
 by_operated len fs j w c = by_compared len fs j w c
 
 -- where names in parentheses are wanted
@@ -361,13 +382,31 @@ by_names_wanted fs p _ = Err Unexpected
 
 -- after names in parentheses
 abbrev pub named_for : List Frame → Purpose → List (List ℕ) → State
-named_for fs (before_args c by) names = at fs (grouped (record { at = c.at; name = c.name; args = c.args; before = Some (record { by = by; names = names }); after = c.after }))
-named_for fs (after_args c by) names = at fs (regrouped (record { at = c.at; name = c.name; args = c.args; before = c.before; after = Some (record { by = by; names = names }) }))
+named_for fs (before_args c by) names =
+    at fs (grouped
+    (record {
+      at = c.at;
+      name = c.name;
+      args = c.args;
+      before = Some (record { by = by; names = names });
+      after = c.after;
+    }))
+named_for fs (after_args c by) names =
+    at fs (regrouped
+    (record {
+      at = c.at;
+      name = c.name;
+      args = c.args;
+      before = c.before;
+      after = Some (record { by = by; names = names });
+    }))
 named_for fs (matched_by j kind) names = at fs (matched j kind names)
-named_for fs (taken_over j kind by_names side) names = at (joining fs j (matching kind by_names side names)) wanted
+named_for fs (taken_over j kind by_names side) names =
+    at (joining fs j (matching kind by_names side names)) wanted
 
 -- one step of the machine of a part, whose state stands in one of this machine
-abbrev pub within_part : {S V : Type 0} → (S → State) → (V → State) → Option (Progress S V) → Result State Wrong
+abbrev pub within_part : {S V : Type 0} → (S → State) → (V → State) → Option (Progress S V)
+    → Result State Wrong
 within_part on off None = Err Unexpected
 within_part on off (Some (Goes s)) = Ok (on s)
 within_part on off (Some (Done v)) = Ok (off v)
@@ -378,8 +417,10 @@ by_grouped len fs c here Class.OpenRound = opening len here fs (at (in_args c �
 by_grouped len fs c here _ = Err Unexpected
 
 -- after `with`
-abbrev pub by_with_read : (len : ℕ) → List Frame → (place : ℕ) → (here : ℕ) → Class → Result State Wrong
-by_with_read len fs place here Class.OpenRound = opening len here fs (at fs (template_wanted (record { at = place; templates = [] })))
+abbrev pub by_with_read : (len : ℕ) → List Frame → (place : ℕ) → (here : ℕ) → Class
+    → Result State Wrong
+by_with_read len fs place here Class.OpenRound =
+    opening len here fs (at fs (template_wanted (record { at = place; templates = [] })))
 by_with_read len fs place here _ = Err Unexpected
 
 -- where a template or `)` is wanted
@@ -406,9 +447,11 @@ by len fs (grouped x) w c = by_grouped len fs x w.at c
 by len fs (called x) w c = by_called fs x w.at c
 by len fs (regrouped x) w c = by_regrouped fs x w.at c
 by len fs (names_wanted p) w c = by_names_wanted fs p c
-by len fs (in_names p s) w c = within_part (λ t. at fs (in_names p t)) (named_for fs p) (names_step s w)
+by len fs (in_names p s) w c =
+    within_part (λ t. at fs (in_names p t)) (named_for fs p) (names_step s w)
 by len fs (in_braces place name s) w c =
-    within_part (λ t. at fs (in_braces place name t)) (λ lists. at fs (primary (select place name lists))) (braces_step s w)
+    within_part (λ t. at fs (in_braces place name t))
+    (λ lists. at fs (primary (select place name lists))) (braces_step s w)
 by len fs (primary t) w c = by_primary fs t w.at c
 by len fs (window_wanted place t) w c = by_window_wanted len fs place t w c
 by len fs (window_read place t span) w c = by_window_read fs place t span c
@@ -423,7 +466,9 @@ by len fs (many_read j kind names side) w c = by_many len fs j kind names side w
 by len fs (with_read place) w c = by_with_read len fs place w.at c
 by len fs (template_wanted s) w c = by_template_wanted fs s w c
 by len fs (template_named s h) w c = by_template_named fs s h c
-by len fs (in_params s h state) w c = within_part (λ t. at fs (in_params s h t)) (λ ps. at fs (template_headed s h ps)) (params_step state w)
+by len fs (in_params s h state) w c =
+    within_part (λ t. at fs (in_params s h t)) (λ ps. at fs (template_headed s h ps))
+    (params_step state w)
 by len fs (template_headed s h ps) w c = by_template_headed fs s h ps c
 
 -- the state that a move leads to, none where it fails

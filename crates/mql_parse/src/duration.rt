@@ -13,7 +13,8 @@ pub const MAX_LENGTH: u64 = 1 << 48;
 pub(crate) fn duration(text: &str, token: Token) -> Option<Span>
     requires stands { StandsIn text.now token }
     ensures { MatchOption result (is_short (length_of (slice_of text.now token)) ≡ false)
-        (λ span. (is_short (length_of (slice_of text.now token)) ≡ true) × (span ≡ ahead (length_of (slice_of text.now token)))) }
+        (λ span. (is_short (length_of (slice_of text.now token)) ≡ true)
+        × (span ≡ ahead (length_of (slice_of text.now token)))) }
 {
     let at = token.at as usize;
     let total = added(&text.as_bytes()[at..at + token.len as usize]);
@@ -59,8 +60,10 @@ fn added(text: &[u8]) -> Sum
 /// The sum after one more byte.
 #[tactic(auto, using(crate::proofs::Sums::digit_ms, crate::proofs::Sums::digit_steps, crate::proofs::Sums::unit_ms, crate::proofs::Sums::unit_steps))]
 fn taken(sum: Sum, byte: u8, more: &[u8]) -> Sum
-    ensures ms { AsFar (result.ms + (length_behind result.count more.now).ms) (sum.ms + (length_behind sum.count (byte ∷ more.now)).ms) }
-    ensures steps { AsFar (result.steps + (length_behind result.count more.now).steps) (sum.steps + (length_behind sum.count (byte ∷ more.now)).steps) }
+    ensures ms { AsFar (result.ms + (length_behind result.count more.now).ms)
+        (sum.ms + (length_behind sum.count (byte ∷ more.now)).ms) }
+    ensures steps { AsFar (result.steps + (length_behind result.count more.now).steps)
+        (sum.steps + (length_behind sum.count (byte ∷ more.now)).steps) }
 {
     if byte.is_ascii_digit() {
         let count = (sum.count * 10 + u64::from(byte - b'0')).min(MAX_LENGTH);

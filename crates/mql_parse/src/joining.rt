@@ -32,7 +32,8 @@ pub(crate) fn by_joining(
 ) -> Result<Last, StepError>
     requires stands { StandsIn text.now token }
     ensures { (len : ℕ) → token.at < len → Steps result (stack_of stack.new)
-        (by len (the_frames (stack_of stack.old)) (the_joining state) (word_of text.now token) (class_of_word (word_of text.now token))) }
+        (by len (the_frames (stack_of stack.old)) (the_joining state) (word_of text.now token)
+        (class_of_word (word_of text.now token))) }
 {
     match state {
         Joining::Operator(pending) => by_operator(alloc, stack, pending, text, token),
@@ -52,7 +53,8 @@ fn by_operator(
 ) -> Result<Last, StepError>
     requires stands { StandsIn text.now token }
     ensures { (len : ℕ) → token.at < len → Steps result (stack_of stack.new)
-        (after_operator len (the_frames (stack_of stack.old)) (the_joint pending) (word_of text.now token) (class_of_word (word_of text.now token))) }
+        (after_operator len (the_frames (stack_of stack.old)) (the_joint pending)
+        (word_of text.now token) (class_of_word (word_of text.now token))) }
 {
     match class_of(text, token) {
         Class::Truth => by_truth(pending),
@@ -62,7 +64,10 @@ fn by_operator(
 
 /// After `bool`, which only a comparison may have.
 fn by_truth(pending: Pending) -> Result<Last, StepError>
-    ensures { (opens : ListOf OpenOf) → Steps result opens (only (compares pending.op) Unexpected (state_at (the_frames opens) (compared (true_joint (the_joint pending))))) }
+    ensures { (opens : ListOf OpenOf)
+        → Steps result opens
+        (only (compares pending.op) Unexpected
+        (state_at (the_frames opens) (compared (true_joint (the_joint pending))))) }
 {
     let Pending { at, op, left, .. } = pending;
     if !is_comparison(op) {
@@ -96,7 +101,8 @@ fn by_compared(
 ) -> Result<Last, StepError>
     requires stands { StandsIn text.now token }
     ensures { (len : ℕ) → token.at < len → Steps result (stack_of stack.new)
-        (after_compared len (the_frames (stack_of stack.old)) (the_joint pending) (word_of text.now token) (class_of_word (word_of text.now token))) }
+        (after_compared len (the_frames (stack_of stack.old)) (the_joint pending)
+        (word_of text.now token) (class_of_word (word_of text.now token))) }
 {
     match class_of(text, token) {
         Class::Pairing(kind) => Ok(Last::NamesWanted(NamesFor::Pairs(pending, kind))),
@@ -123,7 +129,8 @@ fn by_matched(
 ) -> Result<Last, StepError>
     requires stands { StandsIn text.now token }
     ensures { (len : ℕ) → token.at < len → Steps result (stack_of stack.new)
-        (after_matched len (the_frames (stack_of stack.old)) (the_joint paired.pending) paired.kind paired.names (word_of text.now token) (class_of_word (word_of text.now token))) }
+        (after_matched len (the_frames (stack_of stack.old)) (the_joint paired.pending) paired.kind
+        paired.names (word_of text.now token) (class_of_word (word_of text.now token))) }
 {
     let Paired {
         pending,
@@ -161,7 +168,9 @@ fn by_widened(
 ) -> Result<Last, StepError>
     requires stands { StandsIn text.now token }
     ensures { (len : ℕ) → token.at < len → Steps result (stack_of stack.new)
-        (after_many len (the_frames (stack_of stack.old)) (the_joint paired.pending) paired.kind paired.names paired.many (word_of text.now token) (class_of_word (word_of text.now token))) }
+        (after_many len (the_frames (stack_of stack.old)) (the_joint paired.pending) paired.kind
+        paired.names paired.many (word_of text.now token)
+        (class_of_word (word_of text.now token))) }
 {
     match class_of(text, token) {
         Class::OpenRound => {
@@ -221,7 +230,8 @@ fn within(
 ) -> Result<Last, StepError>
     requires stands { StandsIn text.now token }
     ensures { (len : ℕ) → token.at < len → Steps result (stack_of stack.new)
-        (where_wanted len (the_frame frame ∷ the_frames (stack_of stack.old)) (word_of text.now token) (class_of_word (word_of text.now token))) }
+        (where_wanted len (the_frame frame ∷ the_frames (stack_of stack.old))
+        (word_of text.now token) (class_of_word (word_of text.now token))) }
 {
     stack.push(frame)?;
     by_nothing(alloc, stack, text, token)

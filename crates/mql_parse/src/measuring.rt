@@ -31,7 +31,8 @@ pub(crate) fn by_measuring(
 ) -> Result<Last, StepError>
     requires stands { StandsIn text.now token }
     ensures { (len : ℕ) → token.at < len → Steps result (stack_of stack.new)
-        (by len (the_frames (stack_of stack.old)) (the_measuring state) (word_of text.now token) (class_of_word (word_of text.now token))) }
+        (by len (the_frames (stack_of stack.old)) (the_measuring state) (word_of text.now token)
+        (class_of_word (word_of text.now token))) }
 {
     let at = token.at;
     let class = class_of(text, token);
@@ -55,7 +56,8 @@ pub(crate) fn by_measuring(
 fn by_window_wanted(ranging: Ranging, text: &str, token: Token) -> Result<Last, StepError>
     requires stands { StandsIn text.now token }
     ensures { (len : ℕ) → token.at < len → (opens : ListOf OpenOf) → Steps result opens
-        (where_window len (the_frames opens) ranging.at (tree ranging.inner) (word_of text.now token) (class_of_word (word_of text.now token))) }
+        (where_window len (the_frames opens) ranging.at (tree ranging.inner)
+        (word_of text.now token) (class_of_word (word_of text.now token))) }
 {
     match class_of(text, token) {
         Class::Time => match duration(text, token) {
@@ -68,7 +70,9 @@ fn by_window_wanted(ranging: Ranging, text: &str, token: Token) -> Result<Last, 
 
 /// After `[` and a duration.
 fn by_window_read(ranging: Ranging, span: Span, class: Class) -> Result<Last, StepError>
-    ensures { (opens : ListOf OpenOf) → Steps result opens (after_length (the_frames opens) ranging.at (tree ranging.inner) span class) }
+    ensures { (opens : ListOf OpenOf)
+        → Steps result opens
+        (after_length (the_frames opens) ranging.at (tree ranging.inner) span class) }
 {
     match class {
         Class::CloseSquare => Ok(Last::Measuring(Measuring::Windowed(ranging, span))),
@@ -85,7 +89,8 @@ fn by_window(
     here: Here,
 ) -> Result<Last, StepError>
     ensures { Steps result (stack_of stack.new)
-        (after_window (the_frames (stack_of stack.old)) ranging.at (tree ranging.inner) span here.at here.class) }
+        (after_window (the_frames (stack_of stack.old)) ranging.at (tree ranging.inner) span here.at
+        here.class) }
 {
     match here.class {
         Class::Offset => Ok(Last::Measuring(Measuring::OffsetWanted(ranging, Some(span)))),
@@ -108,7 +113,8 @@ fn by_offset_wanted(
 ) -> Result<Last, StepError>
     requires stands { StandsIn text.now token }
     ensures { (len : ℕ) → token.at < len → (opens : ListOf OpenOf) → Steps result opens
-        (where_offset len (the_frames opens) ranging.at (tree ranging.inner) window (word_of text.now token) (class_of_word (word_of text.now token))) }
+        (where_offset len (the_frames opens) ranging.at (tree ranging.inner) window
+        (word_of text.now token) (class_of_word (word_of text.now token))) }
 {
     match class_of(text, token) {
         Class::Time => match duration(text, token) {
@@ -131,7 +137,8 @@ fn by_offset_back(
 ) -> Result<Last, StepError>
     requires stands { StandsIn text.now token }
     ensures { (len : ℕ) → token.at < len → (opens : ListOf OpenOf) → Steps result opens
-        (where_back len (the_frames opens) ranging.at (tree ranging.inner) window (word_of text.now token) (class_of_word (word_of text.now token))) }
+        (where_back len (the_frames opens) ranging.at (tree ranging.inner) window
+        (word_of text.now token) (class_of_word (word_of text.now token))) }
 {
     match class_of(text, token) {
         Class::Time => match duration(text, token) {
@@ -149,7 +156,10 @@ fn whole(
     window: Option<Span>,
     offset: Span,
 ) -> Result<Last, StepError>
-    ensures { MatchResult result (λ last. the_before last ≡ complete (ranged ranging.at (tree ranging.inner) window (Some offset))) (λ e. e ≡ Memory) }
+    ensures { MatchResult result
+        (λ last. the_before last
+        ≡ complete (ranged ranging.at (tree ranging.inner) window (Some offset)))
+        (λ e. e ≡ Memory) }
 {
     let Ranging { at, inner } = ranging;
     let expr = Expr::ranged(alloc, at, inner, window, Some(offset))?;

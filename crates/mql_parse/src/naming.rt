@@ -23,7 +23,8 @@ pub(crate) fn by_names_wanted(
     purpose: NamesFor,
     class: Class,
 ) -> Result<Last, StepError>
-    ensures { (opens : ListOf OpenOf) → Steps result opens (where_names (the_frames opens) (the_purpose purpose) class) }
+    ensures { (opens : ListOf OpenOf)
+        → Steps result opens (where_names (the_frames opens) (the_purpose purpose) class) }
 {
     match class {
         Class::OpenRound => Ok(Last::InNames(purpose, NamesReader::new(alloc))),
@@ -38,7 +39,8 @@ pub(crate) fn behind_names(
     progress: Option<Progress<NamesReader, List<Text>>>,
 ) -> Result<Last, StepError>
     ensures { Steps result (stack_of stack.new)
-        (within_part (λ s. state_at (the_frames (stack_of stack.old)) (among_names (the_purpose purpose) s))
+        (within_part
+        (λ s. state_at (the_frames (stack_of stack.old)) (among_names (the_purpose purpose) s))
         (behind_purpose (the_frames (stack_of stack.old)) (the_purpose purpose)) progress) }
 {
     match progress {
@@ -50,7 +52,8 @@ pub(crate) fn behind_names(
 
 /// After names and their `)`.
 fn named_for(stack: &mut Stack, purpose: NamesFor, names: List<Text>) -> Result<Last, StepError>
-    ensures { Steps result (stack_of stack.new) (reached (behind_purpose (the_frames (stack_of stack.old)) (the_purpose purpose) names)) }
+    ensures { Steps result (stack_of stack.new)
+        (reached (behind_purpose (the_frames (stack_of stack.old)) (the_purpose purpose) names)) }
 {
     match purpose {
         NamesFor::GroupBefore(call, by) => Ok(Last::Grouped(grouped(call, Group { by, names }))),
@@ -70,7 +73,14 @@ fn named_for(stack: &mut Stack, purpose: NamesFor, names: List<Text>) -> Result<
 
 /// A call with the group before its arguments.
 fn grouped(call: Calling, group: Group) -> Calling
-    ensures { the_call result ≡ record { at = call.at; name = call.name; args = map tree call.args; before = Some group; after = call.after } }
+    ensures { the_call result
+        ≡ record {
+          at = call.at;
+          name = call.name;
+          args = map tree call.args;
+          before = Some group;
+          after = call.after;
+        } }
 {
     let Calling {
         at,
@@ -90,7 +100,14 @@ fn grouped(call: Calling, group: Group) -> Calling
 
 /// A call with the group after its arguments.
 fn regrouped(call: Calling, group: Group) -> Calling
-    ensures { the_call result ≡ record { at = call.at; name = call.name; args = map tree call.args; before = call.before; after = Some group } }
+    ensures { the_call result
+        ≡ record {
+          at = call.at;
+          name = call.name;
+          args = map tree call.args;
+          before = call.before;
+          after = Some group;
+        } }
 {
     let Calling {
         at,
@@ -110,7 +127,9 @@ fn regrouped(call: Calling, group: Group) -> Calling
 
 /// An operator with all its modifiers.
 fn operating(paired: Paired, extra: List<Text>) -> Open
-    ensures { the_frame result ≡ in_operator (the_joint paired.pending) (match_of paired.kind paired.names paired.many extra) }
+    ensures { the_frame result
+        ≡ in_operator (the_joint paired.pending)
+        (match_of paired.kind paired.names paired.many extra) }
 {
     let Paired {
         pending,

@@ -19,7 +19,8 @@ use vm_base::List;
 #[tactic(auto, using(crate::proofs::Openings::opening_there, crate::proofs::Openings::opening_deep))]
 pub(crate) fn open_level(stack: &mut Stack, frame: Open) -> Result<Last, StepError>
     ensures { (len here : ℕ) → here < len → Steps result (stack_of stack.new)
-        (opening len here (the_frames (stack_of stack.old)) (state_at (the_frame frame ∷ the_frames (stack_of stack.old)) wanted)) }
+        (opening len here (the_frames (stack_of stack.old))
+        (state_at (the_frame frame ∷ the_frames (stack_of stack.old)) wanted)) }
 {
     if !stack.has_room() {
         return Err(StepError::Refused(Wrong::TooDeep));
@@ -35,7 +36,8 @@ pub(crate) fn by_primary(
     expr: Expr,
     here: Here,
 ) -> Result<Last, StepError>
-    ensures { Steps result (stack_of stack.new) (after_primary (the_frames (stack_of stack.old)) (tree expr) here.at here.class) }
+    ensures { Steps result (stack_of stack.new)
+        (after_primary (the_frames (stack_of stack.old)) (tree expr) here.at here.class) }
 {
     let at = here.at;
     match here.class {
@@ -58,7 +60,8 @@ pub(crate) fn by_regrouped(
     call: Calling,
     here: Here,
 ) -> Result<Last, StepError>
-    ensures { Steps result (stack_of stack.new) (after_regrouped (the_frames (stack_of stack.old)) (the_call call) here.at here.class) }
+    ensures { Steps result (stack_of stack.new)
+        (after_regrouped (the_frames (stack_of stack.old)) (the_call call) here.at here.class) }
 {
     match here.class {
         Class::Keep => Ok(Last::Primary(whole_call(call, true))),
@@ -68,7 +71,9 @@ pub(crate) fn by_regrouped(
 
 /// After a call with all that belongs to it.
 fn by_call(alloc: Global, stack: &mut Stack, call: Calling, here: Here) -> Result<Last, StepError>
-    ensures { Steps result (stack_of stack.new) (after_primary (the_frames (stack_of stack.old)) (called_tree (the_call call) false) here.at here.class) }
+    ensures { Steps result (stack_of stack.new)
+        (after_primary (the_frames (stack_of stack.old)) (called_tree (the_call call) false) here.at
+        here.class) }
 {
     let expr = whole_call(call, false);
     by_primary(alloc, stack, expr, here)
@@ -81,7 +86,8 @@ pub(crate) fn by_called(
     call: Calling,
     here: Here,
 ) -> Result<Last, StepError>
-    ensures { Steps result (stack_of stack.new) (after_called (the_frames (stack_of stack.old)) (the_call call) here.at here.class) }
+    ensures { Steps result (stack_of stack.new)
+        (after_called (the_frames (stack_of stack.old)) (the_call call) here.at here.class) }
 {
     match here.class {
         Class::Grouping { by } => Ok(Last::NamesWanted(NamesFor::GroupAfter(call, by))),
@@ -91,7 +97,9 @@ pub(crate) fn by_called(
 
 /// After a call with its group, before its arguments.
 pub(crate) fn by_grouped(stack: &mut Stack, call: Calling, here: Here) -> Result<Last, StepError>
-    ensures { (len : ℕ) → here.at < len → Steps result (stack_of stack.new) (after_grouped len (the_frames (stack_of stack.old)) (the_call call) here.at here.class) }
+    ensures { (len : ℕ) → here.at < len
+        → Steps result (stack_of stack.new)
+        (after_grouped len (the_frames (stack_of stack.old)) (the_call call) here.at here.class) }
 {
     match here.class {
         Class::OpenRound => open_level(stack, Open::Calling(call)),
@@ -106,7 +114,9 @@ pub(crate) fn by_name(
     head: Heading,
     here: Here,
 ) -> Result<Last, StepError>
-    ensures { (len : ℕ) → here.at < len → Steps result (stack_of stack.new) (after_name len (the_frames (stack_of stack.old)) (the_head head) here.at here.class) }
+    ensures { (len : ℕ) → here.at < len
+        → Steps result (stack_of stack.new)
+        (after_name len (the_frames (stack_of stack.old)) (the_head head) here.at here.class) }
 {
     match here.class {
         Class::OpenRound => open_level(stack, Open::Calling(call_of(alloc, head))),
@@ -124,7 +134,9 @@ pub(crate) fn by_name(
 
 /// After a name that is a selector.
 fn by_metric(alloc: Global, stack: &mut Stack, head: Heading, here: Here) -> Result<Last, StepError>
-    ensures { Steps result (stack_of stack.new) (after_primary (the_frames (stack_of stack.old)) (metric_tree (the_head head)) here.at here.class) }
+    ensures { Steps result (stack_of stack.new)
+        (after_primary (the_frames (stack_of stack.old)) (metric_tree (the_head head)) here.at
+        here.class) }
 {
     let expr = metric(alloc, head);
     by_primary(alloc, stack, expr, here)

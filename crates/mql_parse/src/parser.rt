@@ -33,12 +33,16 @@ use std::alloc::{AllocError, Global};
 pub fn parse(alloc: Global, text: &str, tokens: &[Token]) -> Result<Expr, ParseFault>
     requires tokens { AreTokens text.now tokens.now }
     // What `Ok` holds.
-    ensures found { IfOk result (λ expr. Spells (length text.now) (words_of text.now tokens.now) (tree expr)) }
+    ensures found { IfOk result
+        (λ expr. Spells (length text.now) (words_of text.now tokens.now) (tree expr)) }
 
     // When each error comes.
-    ensures unexpected { (at : ℕ) → result ≡ Err (Unexpected at) → IsUnexpected (length text.now) (words_of text.now tokens.now) at }
-    ensures too_deep { (at : ℕ) → result ≡ Err (TooDeep at) → IsBeyond false (length text.now) (words_of text.now tokens.now) at }
-    ensures too_wide { (at : ℕ) → result ≡ Err (NumberTooWide at) → IsBeyond true (length text.now) (words_of text.now tokens.now) at }
+    ensures unexpected { (at : ℕ) → result ≡ Err (Unexpected at)
+        → IsUnexpected (length text.now) (words_of text.now tokens.now) at }
+    ensures too_deep { (at : ℕ) → result ≡ Err (TooDeep at)
+        → IsBeyond false (length text.now) (words_of text.now tokens.now) at }
+    ensures too_wide { (at : ℕ) → result ≡ Err (NumberTooWide at)
+        → IsBeyond true (length text.now) (words_of text.now tokens.now) at }
 {
     let mut stack = Stack::new(alloc);
     let mut last = Last::Nothing;
@@ -71,7 +75,9 @@ fn fault_at(e: StepError, at: u64) -> ParseFault
 /// The whole expression where the text ends, none where it ends too early.
 #[tactic(auto, using(crate::proofs::Endings::end_there, crate::proofs::Endings::none_there))]
 fn whole(alloc: Global, stack: &mut Stack, last: Last) -> Result<Option<Expr>, AllocError>
-    ensures { IfOk result (λ found. option_map tree found ≡ end_with (the_frames (stack_of stack.old)) (stands_there (the_before last))) }
+    ensures { IfOk result
+        (λ found. option_map tree found
+        ≡ end_with (the_frames (stack_of stack.old)) (stands_there (the_before last))) }
 {
     let Some(expr) = standing(alloc, last)? else {
         return Ok(None);

@@ -86,7 +86,8 @@ pub(crate) fn go_on(
     expr: Expr,
     here: Here,
 ) -> Result<Last, StepError>
-    ensures { Steps result (stack_of stack.new) (goes_on (the_frames (stack_of stack.old)) (tree expr) here.at here.class) }
+    ensures { Steps result (stack_of stack.new)
+        (goes_on (the_frames (stack_of stack.old)) (tree expr) here.at here.class) }
 {
     match here.class {
         Class::Operator(op) => {
@@ -114,7 +115,8 @@ pub(crate) fn go_on(
 
 /// After `)`.
 fn close(stack: &mut Stack, expr: Expr) -> Result<Last, StepError>
-    ensures { Steps result (stack_of stack.new) (close_frame (the_frames (stack_of stack.old)) (tree expr)) }
+    ensures { Steps result (stack_of stack.new)
+        (close_frame (the_frames (stack_of stack.old)) (tree expr)) }
 {
     match stack.pop() {
         Some(Open::Round) => Ok(Last::Primary(expr)),
@@ -130,7 +132,8 @@ fn close(stack: &mut Stack, expr: Expr) -> Result<Last, StepError>
 
 /// After `,`.
 fn next_item(stack: &mut Stack, expr: Expr) -> Result<Last, StepError>
-    ensures { Steps result (stack_of stack.new) (continue_frame (the_frames (stack_of stack.old)) (tree expr)) }
+    ensures { Steps result (stack_of stack.new)
+        (continue_frame (the_frames (stack_of stack.old)) (tree expr)) }
 {
     match stack.pop() {
         Some(Open::Calling(call)) => {
@@ -174,7 +177,9 @@ fn with_template(
     params: List<Param>,
     body: Expr,
 ) -> Result<Scoping, AllocError>
-    ensures { IfOk result (λ more. the_scope more ≡ with_one_more (the_scope scope) (the_head head) params (tree body)) }
+    ensures { IfOk result
+        (λ more. the_scope more
+        ≡ with_one_more (the_scope scope) (the_head head) params (tree body)) }
 {
     let Scoping { at, mut templates } = scope;
     let Heading { at: place, name } = head;

@@ -32,7 +32,8 @@ pub(crate) fn step(
 ) -> Result<Last, StepError>
     requires stands { StandsIn text.now token }
     ensures { (len : ℕ) → token.at < len → Steps result (stack_of stack.new)
-        (by len (the_frames (stack_of stack.old)) (the_before last) (word_of text.now token) (class_of_word (word_of text.now token))) }
+        (by len (the_frames (stack_of stack.old)) (the_before last) (word_of text.now token)
+        (class_of_word (word_of text.now token))) }
 {
     let at = token.at;
     let class = class_of(text, token);

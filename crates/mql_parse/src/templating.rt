@@ -29,7 +29,8 @@ pub(crate) fn by_templating(
 ) -> Result<Last, StepError>
     requires stands { StandsIn text.now token }
     ensures { (len : ℕ) → token.at < len → Steps result (stack_of stack.new)
-        (by len (the_frames (stack_of stack.old)) (the_templating state) (word_of text.now token) (class_of_word (word_of text.now token))) }
+        (by len (the_frames (stack_of stack.old)) (the_templating state) (word_of text.now token)
+        (class_of_word (word_of text.now token))) }
 {
     let class = class_of(text, token);
     match state {
@@ -47,7 +48,9 @@ pub(crate) fn by_templating(
 /// After `with`.
 #[tactic(auto, using(crate::proofs::Openings::opening_there, crate::proofs::Openings::opening_deep))]
 fn by_with(alloc: Global, stack: &mut Stack, at: u64, class: Class) -> Result<Last, StepError>
-    ensures { (len here : ℕ) → here < len → Steps result (stack_of stack.new) (after_with len (the_frames (stack_of stack.old)) at here class) }
+    ensures { (len here : ℕ) → here < len
+        → Steps result (stack_of stack.new)
+        (after_with len (the_frames (stack_of stack.old)) at here class) }
 {
     match class {
         Class::OpenRound if !stack.has_room() => Err(StepError::Refused(Wrong::TooDeep)),
@@ -69,7 +72,8 @@ fn by_template(
 ) -> Result<Last, StepError>
     requires stands { StandsIn text.now token }
     ensures { Steps result (stack_of stack.new)
-        (where_template (the_frames (stack_of stack.old)) (the_scope scope) (word_of text.now token) (class_of_word (word_of text.now token))) }
+        (where_template (the_frames (stack_of stack.old)) (the_scope scope) (word_of text.now token)
+        (class_of_word (word_of text.now token))) }
 {
     match class_of(text, token) {
         Class::Identifier => {
@@ -92,7 +96,8 @@ fn by_template_name(
     head: Heading,
     class: Class,
 ) -> Result<Last, StepError>
-    ensures { Steps result (stack_of stack.new) (after_template (the_frames (stack_of stack.old)) (the_scope scope) (the_head head) class) }
+    ensures { Steps result (stack_of stack.new)
+        (after_template (the_frames (stack_of stack.old)) (the_scope scope) (the_head head) class) }
 {
     match class {
         Class::OpenRound => {
@@ -111,7 +116,9 @@ fn by_head(
     params: List<Param>,
     class: Class,
 ) -> Result<Last, StepError>
-    ensures { Steps result (stack_of stack.new) (after_head (the_frames (stack_of stack.old)) (the_scope scope) (the_head head) params class) }
+    ensures { Steps result (stack_of stack.new)
+        (after_head (the_frames (stack_of stack.old)) (the_scope scope) (the_head head) params
+        class) }
 {
     match class {
         Class::Assign => {
@@ -129,8 +136,11 @@ fn behind_params(
     progress: Option<Progress<ParamsReader, List<Param>>>,
 ) -> Result<Last, StepError>
     ensures { (opens : ListOf OpenOf) → Steps result opens
-        (within_part (λ s. state_at (the_frames opens) (among_params (the_scope scope) (the_head head) s))
-        (λ params. state_at (the_frames opens) (template_headed (the_scope scope) (the_head head) params)) progress) }
+        (within_part
+        (λ s. state_at (the_frames opens) (among_params (the_scope scope) (the_head head) s))
+        (λ params.
+        state_at (the_frames opens) (template_headed (the_scope scope) (the_head head) params))
+        progress) }
 {
     match progress {
         Some(Progress::Goes(reader)) => Ok(Last::Templating(Templating::InParams(

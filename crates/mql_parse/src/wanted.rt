@@ -31,7 +31,8 @@ pub(crate) fn by_nothing(
 ) -> Result<Last, StepError>
     requires stands { StandsIn text.now token }
     ensures { (len : ℕ) → token.at < len → Steps result (stack_of stack.new)
-        (where_wanted len (the_frames (stack_of stack.old)) (word_of text.now token) (class_of_word (word_of text.now token))) }
+        (where_wanted len (the_frames (stack_of stack.old)) (word_of text.now token)
+        (class_of_word (word_of text.now token))) }
 {
     let at = token.at;
     match class_of(text, token) {

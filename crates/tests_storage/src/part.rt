@@ -140,9 +140,9 @@ const FORTY_INDEX: (usize, usize) = (3208, 5558);
 const FORTY_SUM: u32 = 2725799748;
 
 /// Where that part breaks where the lowest bit of each of some bytes is another one. Byte 5597 ends
-/// the footer's rows, so that the rows of the entries don't add up to them. The last entry stands at
-/// 3168, with its blocks at 3176, its rows at 3184 and its times at 3192 and 3200; the first time of
-/// the first one stands at 1632.
+/// the footer's rows, so that the rows of the entries don't add up to them. The last entry stands
+/// at 3168, with its blocks at 3176, its rows at 3184 and its times at 3192 and 3200; the first
+/// time of the first one stands at 1632.
 const CHANGED_TOGETHER: &str = r"5597|3184
 5597 3192|3184
 5597 3200|3184
@@ -370,7 +370,8 @@ fn the_index_of_forty_series_breaks_at_its_places(rt: HostRuntime) -> Result<(),
     Ok(())
 }
 
-/// Whether a file breaks at the place of a row where the lowest bit of each of its bytes is changed.
+/// Whether a file breaks at the place of a row where the lowest bit of each of its bytes is
+/// changed.
 fn breaks_together(alloc: Global, file: &[u8], row: &str) -> Result<bool, AllocError> {
     let Some((changed, due)) = row.split_once('|') else {
         return Ok(false);

@@ -66,4 +66,5 @@ higher_shift one two high low over =
     sym (pow-add 10 (high - low) low) ∙ ap (λ n. 10 ^ n) (omega arith) in
     let whole : raised * 10 ^ low ≡ one * 10 ^ high =
     mul_assoc one (10 ^ (high - low)) (10 ^ low) ∙ ap (λ n. one * n) shifts in
-    sym (same_factor raised two (10 ^ low) (ten_pos low)) ∙ ap (λ n. nat_cmp n (two * 10 ^ low)) whole
+    sym (same_factor raised two (10 ^ low) (ten_pos low))
+    ∙ ap (λ n. nat_cmp n (two * 10 ^ low)) whole

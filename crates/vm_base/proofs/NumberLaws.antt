@@ -121,7 +121,8 @@ number-form_of z =
     sym (signed-zero (is_negative z)) ∙ ap (signed (is_negative z)) (sym none) ∙ signed-parts z in
     rw (form_of-zero z none) zero_is)
     (λ h.
-    let whole : (bare z).0 * 10 ^ (bare z).1 ≡ unsigned_abs z = stripped_whole 2001 (unsigned_abs z) in
+    let whole : (bare z).0 * 10 ^ (bare z).1 ≡ unsigned_abs z =
+    stripped_whole 2001 (unsigned_abs z) in
     rw (form_of-bare z (omega arith), whole) (signed-parts z))
     (cases_eq (unsigned_abs z) 0)
 
@@ -130,7 +131,8 @@ pub form_of-far : (minus : Bool) (size shift : ℕ) → (size % 10 ≡ 0 → ⊥
     → (form_of (number minus size shift)).shift ≡ 2001
 form_of-far minus size shift last far =
     let z = number minus size shift in
-    let whole : unsigned_abs z ≡ size * 10 ^ shift = unsigned_abs-signed minus (size * 10 ^ shift) in
+    let whole : unsigned_abs z ≡ size * 10 ^ shift =
+    unsigned_abs-signed minus (size * 10 ^ shift) in
     let big : 0 < size * 10 ^ shift = one-le-mul {a = size} (nonzero size last) (ten_pos shift) in
     let noughts : (bare z).1 ≡ 2001 = rw whole (stripped_far 2001 size shift far) in
     rw (form_of-bare z (omega arith)) noughts

@@ -65,7 +65,8 @@ nearest-IsNearest n d some =
     (λ (more : d < 2 * (n % d)).
     let no : (nat_lt (2 * (n % d)) d || (2 * (n % d) == d && n / d % 2 == 0)) ≡ false =
     grind (arith, nat_tests) in
-    rw no (IsNearest-next n d (n / d) (n % d) parts left (omega arith) (λ tie. absurd (omega arith)))))
+    rw no (IsNearest-next n d (n / d) (n % d) parts left (omega arith)
+    (λ tie. absurd (omega arith)))))
     (cases_order (2 * (n % d)) d)
 
 -- of two different numbers only one is so near, since where both are near, one is odd

@@ -38,7 +38,8 @@ module _ {A : Type 0} (L : List A → Type 0) where
       (cases_lt at (length text))
 
   -- after its first wrong place a text begins no text of the language
-  pub none_further : (text : List A) (at far : ℕ) → FirstWrong L text at → at < far → far ≤ length text
+  pub none_further : (text : List A) (at far : ℕ) → FirstWrong L text at → at < far
+      → far ≤ length text
       → Begins L (take far text) → ⊥
   none_further text at far first behind within goes =
       first.wrong (omega arith) (Begins-take text (suc at) far (omega arith) goes)
@@ -79,10 +80,13 @@ module _ {A : Type 0} {L M : List A → Type 0} where
       λ n. take-append-add front rest n in
       record {
         within = omega arith;
-        begins = rw so_far (first.begins.0, rw append_assoc (on (take at rest ++ first.begins.0) first.begins.1));
+        begins =
+            rw so_far
+            (first.begins.0, rw append_assoc (on (take at rest ++ first.begins.0) first.begins.1));
         wrong = λ inside goes.
             let next : suc (length front + at) ≡ length front + suc at = omega arith in
-            let one_more : take (suc (length front + at)) (front ++ rest) ≡ front ++ take (suc at) rest =
+            let one_more : take (suc (length front + at)) (front ++ rest) ≡ front
+            ++ take (suc at) rest =
             ap (λ n. take n (front ++ rest)) next ∙ so_far (suc at) in
             let more : Begins L (front ++ take (suc at) rest) = subst (Begins L) one_more goes in
             let joined : L (front ++ (take (suc at) rest ++ more.0)) =
@@ -111,11 +115,13 @@ module _ {A : Type 0} (L M : List A → Type 0) where
         begins = (second.begins.0, inr second.begins.1);
         wrong = λ inside goes.
             ⊎_elim
-            (λ is. none_further L text one (suc other) first (omega arith) (omega arith) (goes.0, is))
+            (λ is. none_further L text one (suc other) first (omega arith) (omega arith)
+            (goes.0, is))
             (λ is. second.wrong inside (goes.0, is))
             goes.1;
         short = λ end is.
-            ⊎_elim (λ is_one. none_wrong L text one is_one first) (λ is_other. second.short end is_other) is;
+            ⊎_elim (λ is_one. none_wrong L text one is_one first)
+            (λ is_other. second.short end is_other) is;
       }))
       (λ more.
       let last : one ≡ max one other = sym (max-eq_left more) in
@@ -126,10 +132,12 @@ module _ {A : Type 0} (L M : List A → Type 0) where
         wrong = λ inside goes.
             ⊎_elim
             (λ is. first.wrong inside (goes.0, is))
-            (λ is. none_further M text other (suc one) second (omega arith) (omega arith) (goes.0, is))
+            (λ is. none_further M text other (suc one) second (omega arith) (omega arith)
+            (goes.0, is))
             goes.1;
         short = λ end is.
-            ⊎_elim (λ is_one. first.short end is_one) (λ is_other. none_wrong M text other is_other second) is;
+            ⊎_elim (λ is_one. first.short end is_one)
+            (λ is_other. none_wrong M text other is_other second) is;
       }))
       (cases_lt one other)
 
@@ -170,7 +178,8 @@ module _ {S A T : Type 0} (step : S → A → Option S) (final : S → Option T)
   pub result-append : (s t : S) (front rest : List A) → run step s front ≡ Some t
       → result step final s (front ++ rest) ≡ result step final t rest
   result-append s t front rest there =
-      ap (option_and_then final) (run-append s front rest ∙ ap (option_and_then (λ u. run step u rest)) there)
+      ap (option_and_then final)
+      (run-append s front rest ∙ ap (option_and_then (λ u. run step u rest)) there)
 
   -- `reading` by the states that are reached
   pub reading-append : (s t : S) (front rest : List A) → run step s front ≡ Some t
@@ -178,15 +187,18 @@ module _ {S A T : Type 0} (step : S → A → Option S) (final : S → Option T)
   reading-append s t [] rest there =
       let same : s ≡ t = cc in
       ap (λ u. reading step final u rest) same ∙ sym (behind-zero (reading step final t rest))
-  reading-append s t (a ∷ front) rest there = go (step s a) there (λ u. reading-append u t front rest)
+  reading-append s t (a ∷ front) rest there =
+      go (step s a) there (λ u. reading-append u t front rest)
     where
       go : (next : Option S) → option_and_then (λ u. run step u front) next ≡ Some t
           → ((u : S) → run step u front ≡ Some t
-          → reading step final u (front ++ rest) ≡ behind (length front) (reading step final t rest))
+          → reading step final u (front ++ rest)
+          ≡ behind (length front) (reading step final t rest))
           → option_map_or (λ u. behind_one (reading step final u (front ++ rest))) next (Err 0)
           ≡ behind (suc (length front)) (reading step final t rest)
       go None there more = absurd (cc there)
-      go (Some u) there more = ap behind_one (more u there) ∙ behind-suc (length front) (reading step final t rest)
+      go (Some u) there more = ap behind_one (more u there)
+          ∙ behind-suc (length front) (reading step final t rest)
 
   -- the answer where the machine can't go on, and where the text ends
   pub reading-stuck : (front rest : List A) (start s : S) (a : A) → run step start front ≡ Some s
@@ -253,7 +265,8 @@ module _ {S A T : Type 0} (step : S → A → Option S) (final : S → Option T)
         λ more. ap (λ o. option_and_then final (option_and_then (λ t. run step t more) o)) stuck in
         record {
           within = omega arith;
-          begins = subst (Begins (IsRead step final start)) (sym (take-append_seam front (a ∷ rest)))
+          begins =
+              subst (Begins (IsRead step final start)) (sym (take-append_seam front (a ∷ rest)))
               (Begins-reached front s there);
           wrong = λ inside goes.
               let more : Begins (IsRead step final start) (front ++ a ∷ []) =
@@ -275,7 +288,8 @@ module _ {S A T : Type 0} (step : S → A → Option S) (final : S → Option T)
       begins = rw take-length (Begins-reached text s there);
       wrong = λ inside. absurd (omega arith);
       short = λ _ is.
-          let nothing : result step final start text ≡ None = ap (option_and_then final) there ∙ none in
+          let nothing : result step final start text ≡ None = ap (option_and_then final) there
+          ∙ none in
           absurd (cc (nothing, is.1));
     }
 
@@ -296,17 +310,21 @@ module _ {S A T : Type 0} (step : S → A → Option S) (final : S → Option T)
     where
       go : (next : Option S) → step s a ≡ next
           → option_map_or (λ t. behind_one (reading step final t more)) next (Err 0) ≡ Err at
-          → ((t : S) (n : ℕ) → reading step final t more ≡ Err n → FirstWrong (IsRead step final t) more n)
+          → ((t : S) (n : ℕ) → reading step final t more ≡ Err n
+          → FirstWrong (IsRead step final t) more n)
           → FirstWrong (IsRead step final s) (a ∷ more) at
       go None stuck is rest =
           let here : 0 ≡ at = cc in
-          subst (FirstWrong (IsRead step final s) (a ∷ more)) here (stuck_at s viable [] more s a refl stuck)
+          subst (FirstWrong (IsRead step final s) (a ∷ more)) here
+          (stuck_at s viable [] more s a refl stuck)
       go (Some t) there is rest = further (reading step final t more) refl is
         where
           same : (text : List A) → result step final s (a ∷ text) ≡ result step final t text
-          same text = ap (λ o. option_and_then final (option_and_then (λ u. run step u text) o)) there
+          same text =
+              ap (λ o. option_and_then final (option_and_then (λ u. run step u text) o)) there
 
-          further : (found : Result T ℕ) → reading step final t more ≡ found → behind_one found ≡ Err at
+          further : (found : Result T ℕ) → reading step final t more ≡ found
+              → behind_one found ≡ Err at
               → FirstWrong (IsRead step final s) (a ∷ more) at
           further (Ok t') found is = absurd (cc is)
           further (Err n) found is =

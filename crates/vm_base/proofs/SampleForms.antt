@@ -71,4 +71,5 @@ below_zero s o y z form is_y is_z minus plus =
     let some : 0 < s.size =
     ⊎_elim (λ none. absurd (cc (minus, form.plus none))) (λ h. omega arith) (cases_eq s.size 0) in
     let whole = one-le-mul {a = s.size} some (ten_pos s.shift) in
-    rw (← is_y, ← is_z, minus, plus) (opposite (s.size * 10 ^ s.shift) (o.size * 10 ^ o.shift) whole)
+    rw (← is_y, ← is_z, minus, plus)
+    (opposite (s.size * 10 ^ s.shift) (o.size * 10 ^ o.shift) whole)

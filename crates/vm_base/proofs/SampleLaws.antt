@@ -77,7 +77,8 @@ IsSampleForm-form_of z is =
     (λ h.
     let form = form_of-bare z (omega arith) in
     let limits = within (bare z).0 (bare z).1 (rw form at is) in
-    let last : (bare z).0 % 10 ≡ 0 → ⊥ = stripped_end 2001 (unsigned_abs z) (omega (arith, limits.2)) in
+    let last : (bare z).0 % 10 ≡ 0 → ⊥ =
+    stripped_end 2001 (unsigned_abs z) (omega (arith, limits.2)) in
     subst (λ f. IsSampleForm f.negative f.size f.shift) (sym form)
     (record {
       few = limits.0;
@@ -96,7 +97,8 @@ pub sample_parts : (z m e : ℤ) → is_sample z ≡ true → m ≡ mantissa z �
 sample_parts z m e is m_is e_is =
     let f = form_of z in
     let form = IsSampleForm-form_of z is in
-    let size : unsigned_abs m ≡ f.size = ap unsigned_abs m_is ∙ unsigned_abs-signed f.negative f.size in
+    let size : unsigned_abs m ≡ f.size = ap unsigned_abs m_is
+    ∙ unsigned_abs-signed f.negative f.size in
     let sign : is_negative m ≡ f.negative =
     ap is_negative m_is ∙ is_negative-form f.negative f.size form.plus in
     let place : e +ℤ pos 1000 ≡ pos f.shift = omega (arith, ints) in
@@ -141,7 +143,8 @@ some_left size (suc part) by some whole = omega arith
 small_quotient : (minus : Bool) (size by : ℕ) → 0 < size → size < 10 ^ 20 → 0 < by → size % by ≡ 0
     → is_sample (signed minus (size / by)) ≡ false
 small_quotient minus size by some few divides whole =
-    let abs : unsigned_abs (signed minus (size / by)) ≡ size / by = unsigned_abs-signed minus (size / by) in
+    let abs : unsigned_abs (signed minus (size / by)) ≡ size / by =
+    unsigned_abs-signed minus (size / by) in
     let back : size / by * by + size % by ≡ size = div-add-mod' size by in
     let above : 0 < size / by = some_left size (size / by) by some (omega arith) in
     let below : size / by ≤ size / by * by = le-mul_of_pos_right (size / by) divides in
@@ -183,9 +186,11 @@ pub sample_of-stripped : (m e shift : ℤ) (size noughts : ℕ)
     → shift ≡ e +ℤ pos (1000 + noughts) → sample_of m e ≡ placed (is_negative m) size shift
 sample_of-stripped m e shift size noughts whole last few is =
     let minus = is_negative m in
-    let m_is : m ≡ signed minus (size * 10 ^ noughts) = sym (signed-parts m) ∙ ap (signed minus) whole in
+    let m_is : m ≡ signed minus (size * 10 ^ noughts) = sym (signed-parts m)
+    ∙ ap (signed minus) whole in
     let short = few_noughts size noughts (nonzero size last) (omega arith) in
-    ap (λ z. sample_of z e) m_is ∙ sample_of-placed minus size noughts last (omega arith) short e shift is
+    ap (λ z. sample_of z e) m_is
+    ∙ sample_of-placed minus size noughts last (omega arith) short e shift is
 
 zero_at : (e place : ℤ) → e +ℤ pos 1000 ≡ place → sample_of (pos 0) e ≡ Some (pos 0)
 zero_at e (pos up) at =
@@ -209,7 +214,8 @@ Reads minus places size =
 reads_zero : (minus : Bool) (places : ℕ) → Reads minus places 0
 reads_zero minus places =
     let e = neg_ℤ (pos places) in
-    let nought : number minus 0 (1000 - places) ≡ pos 0 = ap (signed minus) (omega arith) ∙ signed-zero minus in
+    let nought : number minus 0 (1000 - places) ≡ pos 0 = ap (signed minus) (omega arith)
+    ∙ signed-zero minus in
     ap (λ z. sample_of z e) (signed-zero minus) ∙ sample_of-zero e ∙ ap Some (sym nought)
 
 reads_noughts : (minus : Bool) (size noughts places : ℕ) → (size % 10 ≡ 0 → ⊥)
@@ -220,7 +226,8 @@ reads_noughts minus size noughts places last few short near =
     let below : size * 1 ≤ size * 10 ^ noughts =
     mul-le-mul_left {m = 1} {n = 10 ^ noughts} size (ten_pos noughts) in
     let e_is : pos shift ≡ neg_ℤ (pos places) +ℤ pos (1000 + noughts) = omega (arith, ints) in
-    sample_of-placed minus size noughts last (omega arith) (omega arith) (neg_ℤ (pos places)) (pos shift) e_is
+    sample_of-placed minus size noughts last (omega arith) (omega arith) (neg_ℤ (pos places))
+    (pos shift) e_is
     ∙ placed_within minus size shift (omega arith) (omega arith) (omega arith)
     ∙ ap (λ n. Some (signed minus n)) (sym (noughts_add size noughts (1000 - places)))
 
@@ -236,5 +243,6 @@ sample_of-fraction minus size places few near =
     let whole : p.0 * 10 ^ p.1 ≡ size = stripped_whole 18 size in
     let last = stripped_last 18 size some few in
     let short = stripped_few 18 size 18 some few in
-    subst (Reads minus places) whole (reads_noughts minus p.0 p.1 places last (omega arith) short near))
+    subst (Reads minus places) whole
+    (reads_noughts minus p.0 p.1 places last (omega arith) short near))
     (cases_eq size 0)

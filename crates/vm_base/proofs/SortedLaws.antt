@@ -47,7 +47,8 @@ module _ {X : Type 0} (le : X → X → Bool) (order : IsOrder le) where
   -- what may not stand before another may stand after it
   turned : (a b : X) → le a b ≡ false → le b a ≡ true
   turned a b not_before =
-      ⊎_elim (λ before. absurd (true≢false (sym before ∙ not_before))) (λ after. after) (order.total a b)
+      ⊎_elim (λ before. absurd (true≢false (sym before ∙ not_before))) (λ after. after)
+      (order.total a b)
 
   pub later-assoc : (a b c : Option X) → later le (later le a b) c ≡ later le a (later le b c)
   later-assoc None b c = refl
@@ -58,12 +59,15 @@ module _ {X : Type 0} (le : X → X → Bool) (order : IsOrder le) where
       first_stays : le a b ≡ false → le b c ≡ false → (if le a c then c else a) ≡ a
       first_stays p q =
           ⊎_elim
-          (λ before. rw before (sym (order.anti a c before (order.chain c b a (turned b c q) (turned a b p)))))
+          (λ before.
+          rw before
+          (sym (order.anti a c before (order.chain c b a (turned b c q) (turned a b p)))))
           (λ not_before. rw not_before)
           (cases_Bool (le a c))
 
       go : (ab bc : Bool) → le a b ≡ ab → le b c ≡ bc
-          → later le (Some (if ab then b else a)) (Some c) ≡ later le (Some a) (Some (if bc then c else b))
+          → later le (Some (if ab then b else a)) (Some c)
+          ≡ later le (Some a) (Some (if bc then c else b))
       go true true p q = rw (q, order.chain a b c p q)
       go true false p q = rw (q, p)
       go false true p q = refl
@@ -74,7 +78,8 @@ module _ {X : Type 0} (le : X → X → Bool) (order : IsOrder le) where
   later-comm (Some a) None = refl
   later-comm (Some a) (Some b) = go (le a b) (le b a) refl refl
     where
-      go : (ab ba : Bool) → le a b ≡ ab → le b a ≡ ba → Some (if ab then b else a) ≡ Some (if ba then a else b)
+      go : (ab ba : Bool) → le a b ≡ ab → le b a ≡ ba
+          → Some (if ab then b else a) ≡ Some (if ba then a else b)
       go true true p q = ap Some (order.anti b a q p)
       go true false p q = refl
       go false true p q = refl
@@ -89,9 +94,11 @@ module _ {X : Type 0} (le : X → X → Bool) (order : IsOrder le) where
   up-put_in x [] up = (tt, tt)
   up-put_in x (y ∷ ys) up = go (le x y) refl (up-put_in x ys up.1)
     where
-      go : (b : Bool) → le x y ≡ b → IsUp le (put_in le x ys) → IsUp le (cond b (x ∷ y ∷ ys) (y ∷ put_in le x ys))
+      go : (b : Bool) → le x y ≡ b → IsUp le (put_in le x ys)
+          → IsUp le (cond b (x ∷ y ∷ ys) (y ∷ put_in le x ys))
       go true before more = ((before, after_first x y ys before up.0), up)
-      go false not_before more = (all_put_in le (λ z. le y z ≡ true) x ys (turned x y not_before) up.0, more)
+      go false not_before more =
+          (all_put_in le (λ z. le y z ≡ true) x ys (turned x y not_before) up.0, more)
 
   -- what `sorted` gives is in order
   pub up-sorted : (xs : List X) → IsUp le (sorted le xs)
@@ -121,12 +128,15 @@ module _ {X : Type 0} (le : X → X → Bool) (order : IsOrder le) where
     last-put_in x [] up = last-cons x [] tt
     last-put_in x (y ∷ ys) up = go (le x y) refl (last-put_in x ys up.1)
       where
-        go : (b : Bool) → le x y ≡ b → last_passed (put_in le x ys) ≡ later le (passed x) (last_passed ys)
-            → last_passed (cond b (x ∷ y ∷ ys) (y ∷ put_in le x ys)) ≡ later le (passed x) (last_passed (y ∷ ys))
+        go : (b : Bool) → le x y ≡ b
+            → last_passed (put_in le x ys) ≡ later le (passed x) (last_passed ys)
+            → last_passed (cond b (x ∷ y ∷ ys) (y ∷ put_in le x ys))
+            ≡ later le (passed x) (last_passed (y ∷ ys))
         go true before more =
             last-cons x (y ∷ ys) (before, after_first x y ys before up.0)
         go false not_before more =
-            last-cons y (put_in le x ys) (all_put_in le (λ z. le y z ≡ true) x ys (turned x y not_before) up.0)
+            last-cons y (put_in le x ys)
+            (all_put_in le (λ z. le y z ≡ true) x ys (turned x y not_before) up.0)
             ∙ ap (later le (passed y)) more
             ∙ sym (later-assoc (passed y) (passed x) (last_passed ys))
             ∙ ap (λ first. later le first (last_passed ys)) (later-comm (passed y) (passed x))
@@ -152,7 +162,8 @@ module _ {X : Type 0} where
   abbrev one_if : (X → Bool) → X → ℕ
   one_if p x = cond (p x) 1 0
 
-  pub count-cons : (p : X → Bool) (x : X) (xs : List X) → count_by p (x ∷ xs) ≡ cond (p x) 1 0 + count_by p xs
+  pub count-cons : (p : X → Bool) (x : X) (xs : List X)
+      → count_by p (x ∷ xs) ≡ cond (p x) 1 0 + count_by p xs
   count-cons p = sum_by-cons (one_if p)
 
   pub counts-sym : (xs ys : List X) → SameCounts xs ys → SameCounts ys xs
@@ -168,9 +179,16 @@ module _ {X : Type 0} where
   pub counts-tail : (x : X) (xs ys : List X) → SameCounts (x ∷ xs) (x ∷ ys) → SameCounts xs ys
   counts-tail x xs ys same p = omega (arith, count-cons p x xs, count-cons p x ys, same p)
 
-  pub counts-append : (xs ys us vs : List X) → SameCounts xs ys → SameCounts us vs → SameCounts (xs ++ us) (ys ++ vs)
+  pub counts-append : (xs ys us vs : List X) → SameCounts xs ys → SameCounts us vs
+      → SameCounts (xs ++ us) (ys ++ vs)
   counts-append xs ys us vs first second p =
-      omega (arith, sum_by-append (one_if p) xs us, sum_by-append (one_if p) ys vs, first p, second p)
+      omega (
+        arith,
+        sum_by-append (one_if p) xs us,
+        sum_by-append (one_if p) ys vs,
+        first p,
+        second p,
+      )
 
   pub counts-swap : (x y : X) (xs : List X) → SameCounts (x ∷ y ∷ xs) (y ∷ x ∷ xs)
   counts-swap x y xs p =
@@ -181,7 +199,8 @@ module _ {X : Type 0} where
   pub counts_from_permutation : (xs ys : List X) → IsPermutation xs ys → SameCounts xs ys
   counts_from_permutation xs ys same p = sym (sum_by-IsPermutation (one_if p) xs ys same)
 
-  count_none : (p : X → Bool) (xs : List X) → AllByRecursion (λ x. p x ≡ false) xs → count_by p xs ≡ 0
+  count_none : (p : X → Bool) (xs : List X) → AllByRecursion (λ x. p x ≡ false) xs
+      → count_by p xs ≡ 0
   count_none p [] all = refl
   count_none p (x ∷ xs) all =
       let here : one_if p x ≡ 0 = ap (λ b. cond b 1 0) all.0 in
@@ -238,18 +257,21 @@ module _ {X : Type 0} (le : X → X → Bool) (order : IsOrder le) where
   one_order (x ∷ xs) (y ∷ ys) up up' same =
       let first = first_before y x ys xs up (counts-sym (x ∷ xs) (y ∷ ys) same) in
       let here : x ≡ y = order.anti x y first (first_before x y xs ys up' same) in
-      let alike : SameCounts (x ∷ xs) (x ∷ ys) = subst (λ z. SameCounts (x ∷ xs) (z ∷ ys)) (sym here) same in
+      let alike : SameCounts (x ∷ xs) (x ∷ ys) =
+      subst (λ z. SameCounts (x ∷ xs) (z ∷ ys)) (sym here) same in
       ap₂ ◌∷◌ here (one_order xs ys up.1 up'.1 (counts-tail x xs ys alike))
 
   -- a list in order that holds what xs holds is `sorted` of xs
   pub sorted_from_up : (xs ys : List X) → IsUp le ys → SameCounts xs ys → ys ≡ sorted le xs
   sorted_from_up xs ys up same =
-      one_order ys (sorted le xs) up (up-sorted le order xs) (λ p. sym (counts-sorted le xs p ∙ same p))
+      one_order ys (sorted le xs) up (up-sorted le order xs)
+      (λ p. sym (counts-sorted le xs p ∙ same p))
 
   -- lists that hold each item equally often have one order
   pub sorted-same_counts : (xs ys : List X) → SameCounts xs ys → sorted le xs ≡ sorted le ys
   sorted-same_counts xs ys same =
-      sorted_from_up ys (sorted le xs) (up-sorted le order xs) (λ p. sym (counts-sorted le xs p ∙ same p))
+      sorted_from_up ys (sorted le xs) (up-sorted le order xs)
+      (λ p. sym (counts-sorted le xs p ∙ same p))
 
   -- a list in order stays as it is
   pub sorted-up : (xs : List X) → IsUp le xs → sorted le xs ≡ xs
@@ -268,15 +290,18 @@ module _ {X : Type 0} (le : X → X → Bool) (order : IsOrder le) (lt : X → X
       let up = up_from_sorted_by xs tail in
       (before_all xs rises up, up)
     where
-      before_all : (ys : List X) → IsSortedBy lt (x ∷ ys) → IsUp le ys → AllByRecursion (λ y. le x y ≡ true) ys
+      before_all : (ys : List X) → IsSortedBy lt (x ∷ ys) → IsUp le ys
+          → AllByRecursion (λ y. le x y ≡ true) ys
       before_all [] rises up = tt
       before_all (y ∷ ys) rises up =
           let first : le x y ≡ true = opposed x y (rises 0 x (omega arith) (omega arith)) in
           (first, after_first le order x y ys first up.0)
 
-  pub sorted_from_sort_by : (xs ys : List X) → IsPermutation xs ys → IsSortedBy lt ys → ys ≡ sorted le xs
+  pub sorted_from_sort_by : (xs ys : List X) → IsPermutation xs ys → IsSortedBy lt ys
+      → ys ≡ sorted le xs
   sorted_from_sort_by xs ys same rises =
-      sorted_from_up le order xs ys (up_from_sorted_by ys rises) (counts_from_permutation xs ys same)
+      sorted_from_up le order xs ys (up_from_sorted_by ys rises)
+      (counts_from_permutation xs ys same)
 
 not_greater : (o : Ordering) → is_lt (ordering_reverse o) ≡ false → is_le o ≡ true
 not_greater Less h = refl
@@ -286,7 +311,8 @@ not_greater Greater h = absurd (true≢false h)
 module _ {X : Type 0} (cmp : X → X → Ordering) (total : IsTotalOrder cmp)
     (le : X → X → Bool) (is : (a b : X) → le a b ≡ is_le (cmp a b)) where
   -- what `sort` ensures, where `le` is "not greater" by the `cmp` of the items' type
-  pub sorted_from_sort : IsOrder le → (xs ys : List X) → IsPermutation xs ys → IsSorted cmp ys → ys ≡ sorted le xs
+  pub sorted_from_sort : IsOrder le → (xs ys : List X) → IsPermutation xs ys → IsSorted cmp ys
+      → ys ≡ sorted le xs
   sorted_from_sort order = sorted_from_sort_by le order (λ a b. is_lt (cmp a b))
       (λ a b h. is a b ∙ not_greater (cmp a b) (ap is_lt (sym (total.antisymm b a)) ∙ h))
 
@@ -316,7 +342,8 @@ module _ {X : Type 0} (cmp : X → X → Ordering) (total : IsTotalOrder cmp)
   pub order_from_cmp : IsOrder (λ a b. is_le (cmp a b))
   order_from_cmp = record {
     same = λ a. ap is_le (tied_itself total a);
-    chain = λ a b c p q. le_again (cmp a c) (upto total a b c (not_gt (cmp a b) p) (not_gt (cmp b c) q));
+    chain = λ a b c p q.
+        le_again (cmp a c) (upto total a b c (not_gt (cmp a b) p) (not_gt (cmp b c) q));
     anti = λ a b p q. apart a b (level (cmp a b) p (ap is_le (sym (total.antisymm b a)) ∙ q));
     total = λ a b. ⊎_elim inl (λ h. inr (ap is_le (total.antisymm b a) ∙ h)) (either (cmp a b));
   }

@@ -58,7 +58,8 @@ stamped_order =
     }
 
 -- what `sort` gives of a list of them
-pub sorted_from_stamped_sort : (xs ys : List Stamped) → IsPermutation xs ys → IsSorted stamped_cmp ys
+pub sorted_from_stamped_sort : (xs ys : List Stamped) → IsPermutation xs ys
+    → IsSorted stamped_cmp ys
     → ys ≡ sorted is_in_order xs
 sorted_from_stamped_sort =
     sorted_from_sort stamped_cmp stamped_cmp-total is_in_order is_in_order-cmp stamped_order

@@ -22,7 +22,8 @@ behind_one (Err at) = Err (suc at)
 
 -- what the whole text stands for; else the place of the symbol at which the machine can't go on, or
 -- the text's length where it ends too early
-abbrev pub reading : {S A T : Type 0} → (S → A → Option S) → (S → Option T) → S → List A → Result T ℕ
+abbrev pub reading : {S A T : Type 0} → (S → A → Option S) → (S → Option T) → S → List A
+    → Result T ℕ
 reading step final s [] = ok_or (final s) 0
 reading step final s (a ∷ more) =
     option_map_or (λ t. behind_one (reading step final t more)) (step s a) (Err 0)

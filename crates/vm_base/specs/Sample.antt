@@ -6,7 +6,8 @@ use Rattle.vm_base.specs.Number.{form_of, scaled, signed}
 -- whether a number has at most 18 digits and an exponent from -350 to 350 in normal form
 abbrev pub is_sample : ℤ → Bool
 is_sample z =
-    nat_lt (form_of z).size (10 ^ 18) && nat_le 650 (form_of z).shift && nat_le (form_of z).shift 1350
+    nat_lt (form_of z).size (10 ^ 18) && nat_le 650 (form_of z).shift
+    && nat_le (form_of z).shift 1350
 
 -- `m * 10^e`, none where that is no sample
 abbrev pub sample_of : ℤ → ℤ → Option ℤ

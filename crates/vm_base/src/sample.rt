@@ -38,7 +38,8 @@ impl Model for Sample {
 
     ghost invariant = { λ s. IsSampleForm s.negative s.size s.shift };
 
-    ghost inverse = { λ z. let f = form_of z in record { size = f.size; shift = f.shift; negative = f.negative } };
+    ghost inverse = { λ z. let f = form_of
+        z in record { size = f.size; shift = f.shift; negative = f.negative } };
 
     ghost inverse_ok = { λ s h. Prim.rw (form_of-sample s.negative s.size s.shift h) };
 }
@@ -66,7 +67,8 @@ impl Sample {
     /// `size * 10^(shift - 1000)`, none where that is out of range.
     fn in_form(negative: bool, size: u64, shift: i32) -> Option<Sample>
         requires { size % 10 ≡ 0 → ⊥ }
-        ensures { result ≡ (if nat_lt size (10 ^ 18) && int_le (pos 650) shift && int_le shift (pos 1350)
+        ensures { result
+            ≡ (if nat_lt size (10 ^ 18) && int_le (pos 650) shift && int_le shift (pos 1350)
             then Some (number negative size (unsigned_abs shift)) else None) }
     {
         let least = ONES + i32::from(MIN_SAMPLE_EXPONENT);

@@ -16,7 +16,8 @@ use Rattle.vm_block.specs.inner.Reading.{AreStamped}
 -- ---- one mantissa
 
 -- the sample of a mantissa, at an exponent that a block may have
-sample_at : (m e : ℤ) → negsuc 349 ≤ℤ e → sample_of m e ≡ (if is_sample (scaled_by e m) then Some (scaled_by e m) else None)
+sample_at : (m e : ℤ) → negsuc 349 ≤ℤ e
+    → sample_of m e ≡ (if is_sample (scaled_by e m) then Some (scaled_by e m) else None)
 sample_at m e low =
     let whole : int_le (pos 0) (e +ℤ pos 1000) ≡ true = grind (arith, ints, nat_tests) in
     rw whole refl
@@ -31,45 +32,58 @@ if_none false z is = refl
 
 -- ---- one item more
 
-front_more : {X Y : Type 0} (f : X → Y) (xs : List X) (i : ℕ) (d : X) (y : Y) (ys : List Y) → i < length xs → y ≡ f (get_or xs i d)
+front_more : {X Y : Type 0} (f : X → Y) (xs : List X) (i : ℕ) (d : X) (y : Y) (ys : List Y)
+    → i < length xs → y ≡ f (get_or xs i d)
     → ys ≡ map f (take i xs) → ys ++ y ∷ [] ≡ map f (take (i + 1) xs)
 front_more f xs i d y ys inside is front =
     let next : i + 1 ≡ suc i = omega arith in
-    let more : take (i + 1) xs ≡ take i xs ++ get_or xs i d ∷ [] = ap (λ n. take n xs) next ∙ take-suc xs i d inside in
-    ap₂ (λ zs z. zs ++ z ∷ []) front is ∙ sym (ap (map f) more ∙ map-append f (take i xs) (get_or xs i d ∷ []))
+    let more : take (i + 1) xs ≡ take i xs ++ get_or xs i d ∷ [] = ap (λ n. take n xs) next
+    ∙ take-suc xs i d inside in
+    ap₂ (λ zs z. zs ++ z ∷ []) front is
+    ∙ sym (ap (map f) more ∙ map-append f (take i xs) (get_or xs i d ∷ []))
 
 pub stamp_none : (e : ℤ) (ts ms : List ℤ) → AreStamped e (take 0 ts) (take 0 ms) []
 stamp_none e ts ms = record { times = refl; values = refl; are = refl }
 
-pub stamp_more : (e : ℤ) (ts ms : List ℤ) (i : ℕ) (samples : List Stamped) (t : ℕ) (v : ℤ) → negsuc 349 ≤ℤ e → i < length ts → i < length ms
+pub stamp_more : (e : ℤ) (ts ms : List ℤ) (i : ℕ) (samples : List Stamped) (t : ℕ) (v : ℤ)
+    → negsuc 349 ≤ℤ e → i < length ts → i < length ms
     → t ≡ unsigned_abs (get_or ts i (pos 0)) → Some v ≡ sample_of (get_or ms i (pos 0)) e
     → AreStamped e (take i ts) (take i ms) samples
-    → AreStamped e (take (i + 1) ts) (take (i + 1) ms) (samples ++ record { time = t; value = v } ∷ [])
+    → AreStamped e (take (i + 1) ts) (take (i + 1) ms)
+    (samples ++ record { time = t; value = v } ∷ [])
 stamp_more e ts ms i samples t v low in_times in_values time value are =
     let m = get_or ms i (pos 0) in
-    let both = if_some (is_sample (scaled_by e m)) (scaled_by e m) v (sym (value ∙ sample_at m e low)) in
-    let values = front_more (scaled_by e) ms i (pos 0) (scaled_by e m) (map (scaled_by e) (take i ms)) in_values refl refl in
+    let both =
+    if_some (is_sample (scaled_by e m)) (scaled_by e m) v (sym (value ∙ sample_at m e low)) in
+    let values =
+    front_more (scaled_by e) ms i (pos 0) (scaled_by e m) (map (scaled_by e) (take i ms))
+    in_values refl refl in
     record {
       times =
           map-append (λ s. pos s.time) samples (record { time = t; value = v } ∷ [])
-          ∙ front_more (λ time. pos (unsigned_abs time)) ts i (pos 0) (pos t) (times_of samples) in_times (ap pos time) are.times;
+          ∙ front_more (λ time. pos (unsigned_abs time)) ts i (pos 0) (pos t) (times_of samples)
+          in_times (ap pos time) are.times;
       values =
           map-append (λ s. s.value) samples (record { time = t; value = v } ∷ [])
-          ∙ front_more (scaled_by e) ms i (pos 0) v (values_of samples) in_values (sym both.1) are.values;
+          ∙ front_more (scaled_by e) ms i (pos 0) v (values_of samples) in_values (sym both.1)
+          are.values;
       are =
           ap (list_all is_sample) (sym values)
           ∙ list_all-append is_sample (map (scaled_by e) (take i ms)) (scaled_by e m ∷ [])
-          ∙ and_from (list_all is_sample (map (scaled_by e) (take i ms))) (list_all is_sample (scaled_by e m ∷ [])) are.are
+          ∙ and_from (list_all is_sample (map (scaled_by e) (take i ms)))
+          (list_all is_sample (scaled_by e m ∷ [])) are.are
           (and_from (is_sample (scaled_by e m)) true both.0 refl);
     }
 
-pub stamp_all : (e : ℤ) (ts ms : List ℤ) (i : ℕ) (samples : List Stamped) → length ts ≡ length ms → length ts ≤ i
+pub stamp_all : (e : ℤ) (ts ms : List ℤ) (i : ℕ) (samples : List Stamped) → length ts ≡ length ms
+    → length ts ≤ i
     → AreStamped e (take i ts) (take i ms) samples → AreStamped e ts ms samples
 stamp_all e ts ms i samples same past are =
     subst (λ ms. AreStamped e ts ms samples) (take_all i ms (omega arith))
     (subst (λ ts. AreStamped e ts (take i ms) samples) (take_all i ts past) are)
 
-pub no_sample : (e : ℤ) (ms : List ℤ) (i : ℕ) → negsuc 349 ≤ℤ e → i < length ms → None ≡ sample_of (get_or ms i (pos 0)) e
+pub no_sample : (e : ℤ) (ms : List ℤ) (i : ℕ) → negsuc 349 ≤ℤ e → i < length ms
+    → None ≡ sample_of (get_or ms i (pos 0)) e
     → list_all is_sample (map (scaled_by e) ms) ≡ false
 no_sample e ms i low inside none =
     let m = get_or ms i (pos 0) in

@@ -70,7 +70,8 @@ abbrev pub SaysTimes : BlockHeader → List ℕ → List ℤ → Type 0
 SaysTimes h body times = IsColumn h.times (pos h.first_time) h.count (take h.times_len body) times
 
 abbrev pub SaysMantissas : BlockHeader → List ℕ → List ℤ → Type 0
-SaysMantissas h body mantissas = IsColumn h.values h.first_m h.count (drop h.times_len body) mantissas
+SaysMantissas h body mantissas =
+    IsColumn h.values h.first_m h.count (drop h.times_len body) mantissas
 
 -- these times end with the header's last time
 abbrev pub EndsAtLast : BlockHeader → List ℤ → Type 0
@@ -93,23 +94,31 @@ pub record IsBlock (h : BlockHeader) (body : List ℕ) (samples : List Stamped) 
 -- that the bytes have.
 pub data BreaksAt (h : BlockHeader) (body : List ℕ) (at : ℕ) : Type 0 where
   -- the column of times breaks
-  no_times : (place : ℕ) → IsBroken h.times (pos h.first_time) h.count (take h.times_len body) place → at ≡ 40 + place → BreaksAt h body at
+  no_times : (place : ℕ) → IsBroken h.times (pos h.first_time) h.count (take h.times_len body) place
+      → at ≡ 40 + place → BreaksAt h body at
   -- times fall, or leave their range
-  times_fall : (times : List ℤ) → SaysTimes h body times → rise_from (pos 0) times ≡ false → at ≡ 40 → BreaksAt h body at
+  times_fall : (times : List ℤ) → SaysTimes h body times → rise_from (pos 0) times ≡ false → at ≡ 40
+      → BreaksAt h body at
   -- the last time is another one than the header's
   another_end : (times : List ℤ) → SaysTimes h body times → rise_from (pos 0) times ≡ true
       → (EndsAtLast h times → ⊥) → at ≡ 16 → BreaksAt h body at
   -- the column of mantissas breaks
-  no_mantissas : (times : List ℤ) → SaysTimes h body times → rise_from (pos 0) times ≡ true → EndsAtLast h times
-      → (place : ℕ) → IsBroken h.values h.first_m h.count (drop h.times_len body) place → at ≡ 40 + h.times_len + place → BreaksAt h body at
+  no_mantissas : (times : List ℤ) → SaysTimes h body times → rise_from (pos 0) times ≡ true
+      → EndsAtLast h times
+      → (place : ℕ) → IsBroken h.values h.first_m h.count (drop h.times_len body) place
+      → at ≡ 40 + h.times_len + place → BreaksAt h body at
   -- a value is no sample, or the exponent isn't theirs
-  another_exponent : (times mantissas : List ℤ) → SaysTimes h body times → rise_from (pos 0) times ≡ true → EndsAtLast h times
-      → SaysMantissas h body mantissas → are_values h.exponent (map (scaled_by h.exponent) mantissas) ≡ false → at ≡ 4 → BreaksAt h body at
+  another_exponent : (times mantissas : List ℤ) → SaysTimes h body times
+      → rise_from (pos 0) times ≡ true → EndsAtLast h times
+      → SaysMantissas h body mantissas
+      → are_values h.exponent (map (scaled_by h.exponent) mantissas) ≡ false → at ≡ 4
+      → BreaksAt h body at
   -- values at one time fall
   values_fall : (samples : List Stamped) (mantissas : List ℤ) → SaysTimes h body (times_of samples)
       → rise_from (pos 0) (times_of samples) ≡ true → EndsAtLast h (times_of samples)
       → SaysMantissas h body mantissas → values_of samples ≡ map (scaled_by h.exponent) mantissas
-      → are_values h.exponent (values_of samples) ≡ true → (IsUp is_in_order samples → ⊥) → at ≡ 24 → BreaksAt h body at
+      → are_values h.exponent (values_of samples) ≡ true → (IsUp is_in_order samples → ⊥) → at ≡ 24
+      → BreaksAt h body at
 
 -- what a reader answers: nothing is said where memory ran out
 abbrev pub IsRefusal : BlockHeader → List ℕ → BlockFault → Type 0

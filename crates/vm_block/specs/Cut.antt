@@ -35,7 +35,8 @@ joined (block ∷ more) = block ++ joined more
 abbrev pub AreFull : List (List Stamped) → Type 0
 AreFull [] = ⊤
 AreFull (block ∷ []) = ⊤
-AreFull (block ∷ next ∷ more) = (fit_one_block (block ++ take 1 next) ≡ false) × AreFull (next ∷ more)
+AreFull (block ∷ next ∷ more) = (fit_one_block (block ++ take 1 next) ≡ false)
+    × AreFull (next ∷ more)
 
 -- The blocks of samples: one after the other they are the samples, each has some samples and fits,
 -- and each ends only where it must.

@@ -71,7 +71,11 @@ field_rules bytes =
     ∷ (4, is_exponent (cast_signed w16 (from_be_bytes w16 (field 2 4 bytes))))
     ∷ (6, from_be_bytes w16 (field 2 6 bytes) == 0)
     ∷ (8, is_time (from_be_bytes w64 (field 8 8 bytes)))
-    ∷ (16, is_last_time (from_be_bytes w64 (field 8 8 bytes)) (from_be_bytes w64 (field 8 16 bytes)))
+    ∷ (
+      16,
+      is_last_time (from_be_bytes w64 (field 8 8 bytes))
+          (from_be_bytes w64 (field 8 16 bytes)),
+    )
     ∷ (24, in_bounds (cast_signed w64 (from_be_bytes w64 (field 8 24 bytes))))
     ∷ len_rules bytes
 

@@ -41,7 +41,8 @@ pub(crate) fn block_len(samples: &[Stamped]) -> usize
     ensures some { 1 ≤ result }
     ensures within { result ≤ length samples.now }
     ensures fits { fit_one_block (take result samples.now) ≡ true }
-    ensures longest { result < length samples.now → fit_one_block (take (result + 1) samples.now) ≡ false }
+    ensures longest { result < length samples.now
+        → fit_one_block (take (result + 1) samples.now) ≡ false }
 {
     let most = samples.len().min(MAX_BLOCK_SAMPLES as usize);
     let mut shared = Shared::of(samples[0].value);

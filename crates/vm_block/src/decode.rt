@@ -38,7 +38,8 @@ pub fn decode_block(
     // What `Ok` holds.
     ensures block { IfOk result (λ samples. IsBlock header.now body.now samples) }
     // What is a block is read, unless memory runs out.
-    ensures only { (samples : List Stamped) → IsBlock header.now body.now samples → Reads result samples }
+    ensures only { (samples : List Stamped) → IsBlock header.now body.now samples
+        → Reads result samples }
     // When the error comes.
     ensures broken { IfErr result (λ fault. IsRefusal header.now body.now fault) }
 {
@@ -194,8 +195,10 @@ fn read_samples(
     requires last { EndsAtLast header.now times.now }
     requires column { SaysMantissas header.now body.now mantissas.now }
     ensures times { IfOk result (λ samples. times_of samples ≡ times.now) }
-    ensures values { IfOk result (λ samples. values_of samples ≡ map (scaled_by header.now.exponent) mantissas.now) }
-    ensures exponent { IfOk result (λ samples. are_values header.now.exponent (values_of samples) ≡ true) }
+    ensures values { IfOk result
+        (λ samples. values_of samples ≡ map (scaled_by header.now.exponent) mantissas.now) }
+    ensures exponent { IfOk result
+        (λ samples. are_values header.now.exponent (values_of samples) ≡ true) }
     ensures broken { IfErr result (λ fault. IsRefusal header.now body.now fault) }
 {
     let Some(samples) = stamp(alloc, header.exponent, times, mantissas)? else {
@@ -216,8 +219,12 @@ fn stamp(
 ) -> Result<Option<List<Stamped>>, AllocError>
     requires len { length times.now ≡ length mantissas.now }
     requires exponent { negsuc 349 ≤ℤ exponent }
-    ensures samples { IfOk result (λ stamped. IfSome stamped (λ samples. AreStamped exponent times.now mantissas.now samples)) }
-    ensures none { IfOk result (λ stamped. IfNone stamped (list_all is_sample (map (scaled_by exponent) mantissas.now) ≡ false)) }
+    ensures samples { IfOk result
+        (λ stamped.
+        IfSome stamped (λ samples. AreStamped exponent times.now mantissas.now samples)) }
+    ensures none { IfOk result
+        (λ stamped.
+        IfNone stamped (list_all is_sample (map (scaled_by exponent) mantissas.now) ≡ false)) }
 {
     let mut samples = Vec::with_capacity(alloc, times.len())?;
     for place in 0..times.len() {

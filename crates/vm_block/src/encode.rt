@@ -58,7 +58,8 @@ fn header_of(
     ensures values { result.values ≡ values.now.coding }
     ensures exponent { result.exponent ≡ pos shift -ℤ pos 1000 }
     ensures first_time { slice_get (times_of samples.now) 0 ≡ Some (pos result.first_time) }
-    ensures last_time { slice_get (times_of samples.now) (length samples.now - 1) ≡ Some (pos result.last_time) }
+    ensures last_time { slice_get (times_of samples.now) (length samples.now - 1)
+        ≡ Some (pos result.last_time) }
     ensures first_m { slice_get mantissas.now 0 ≡ Some result.first_m }
     ensures times_len { result.times_len ≡ length times.now.bytes.items }
     ensures values_len { result.values_len ≡ length values.now.bytes.items }

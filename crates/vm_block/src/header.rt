@@ -88,7 +88,8 @@ fn read_fields(bytes: &[u8; 40]) -> Result<BlockHeader, Broken>
 fn read_lens(bytes: &[u8; 40]) -> Result<(u32, u32), Broken>
     ensures times { IfOk result (λ lens. lens.0 ≡ from_be_bytes w32 (field 4 32 bytes.now)) }
     ensures values { IfOk result (λ lens. lens.1 ≡ from_be_bytes w32 (field 4 36 bytes.now)) }
-    ensures kept { IfOk result (λ lens. (is_column_len lens.0 ≡ true) × (is_column_len lens.1 ≡ true)) }
+    ensures kept { IfOk result
+        (λ lens. (is_column_len lens.0 ≡ true) × (is_column_len lens.1 ≡ true)) }
     ensures broken { IfErr result (λ e. first_broken (len_rules bytes.now) ≡ Some e.at) }
 {
     let times_len = u32_at(bytes, 32);
@@ -109,7 +110,8 @@ fn check(is_kept: bool, at: u64) -> Result<(), Broken>
 fn coding_at(bytes: &[u8; 40], at: u8) -> Result<Coding, Broken>
     requires { at + 1 ≤ 40 }
     ensures ok { IfOk result (λ coding. coding_of (slice_index bytes.now at) ≡ Some coding) }
-    ensures broken { IfErr result (λ e. (coding_of (slice_index bytes.now at) ≡ None) × (e.at ≡ at)) }
+    ensures broken { IfErr result
+        (λ e. (coding_of (slice_index bytes.now at) ≡ None) × (e.at ≡ at)) }
 {
     Coding::of_number(bytes[at as usize]).ok_or(Broken { at: at as u64 })
 }

@@ -12,7 +12,8 @@ use vm_base::Stamped;
 
 /// Samples are cut into blocks in one way.
 pub fn samples_have_one_cut(samples: &[Stamped])
-    ensures { (one other : List (List Stamped)) → IsCut samples.now one → IsCut samples.now other → one ≡ other }
+    ensures { (one other : List (List Stamped)) → IsCut samples.now one → IsCut samples.now other
+        → one ≡ other }
 {}
 
 /// A header and a body are the block of one list of samples.
@@ -23,7 +24,8 @@ pub fn a_block_says_one_list(header: &BlockHeader, body: &[u8])
 
 /// A header and a body that are no block break at one place.
 pub fn a_block_breaks_at_one_place()
-    ensures { (header : BlockHeader) (body : List ℕ) (at other : ℕ) → BreaksAt header body at → BreaksAt header body other
+    ensures { (header : BlockHeader) (body : List ℕ) (at other : ℕ) → BreaksAt header body at
+        → BreaksAt header body other
         → at ≡ other }
 {}
 
@@ -37,6 +39,7 @@ pub fn what_is_written_is_read(header: &BlockHeader)
 
 /// A list of samples is written in one way.
 pub fn samples_are_written_in_one_way()
-    ensures { (samples : List Stamped) (bytes others : List ℕ) → IsWritten bytes samples → IsWritten others samples
+    ensures { (samples : List Stamped) (bytes others : List ℕ) → IsWritten bytes samples
+        → IsWritten others samples
         → bytes ≡ others }
 {}

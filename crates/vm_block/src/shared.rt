@@ -63,7 +63,8 @@ impl Shared {
 /// A size with zeros after it, none where that has more than 18 digits.
 fn raised(size: u64, noughts: u16) -> Option<u64>
     requires { 0 < size }
-    ensures { result ≡ (if nat_lt (size * 10 ^ noughts) (10 ^ 18) then Some (size * 10 ^ noughts) else None) }
+    ensures { result
+        ≡ (if nat_lt (size * 10 ^ noughts) (10 ^ 18) then Some (size * 10 ^ noughts) else None) }
 {
     let noughts = u32::from(noughts);
     if noughts >= SAMPLE_DIGITS {

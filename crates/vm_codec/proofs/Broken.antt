@@ -44,20 +44,24 @@ ok_not_err : {values : List ℤ} {at : ℕ} → decoded_ok values ≡ err_of at 
 ok_not_err is = cc
 
 -- bytes that break are no column
-no_column : (coding : Coding) (first : ℤ) (count : ℕ) (bytes : List ℕ) (at : ℕ) → decoded coding first count bytes ≡ Err at
+no_column : (coding : Coding) (first : ℤ) (count : ℕ) (bytes : List ℕ) (at : ℕ)
+    → decoded coding first count bytes ≡ Err at
     → (values : List ℤ) → IsColumn coding first count bytes values → ⊥
 no_column coding first count bytes at is values column =
     ok_not_err (sym (decoded_again coding first count bytes values column) ∙ is)
 
 -- at most so many values are begun
-begun_few : (coding : Coding) (count : ℕ) (values : List ℤ) → 1 ≤ count → SuitsSoFar coding count values → length values ≤ count
-begun_few DeltaConst count values some suits = ⊎_elim (λ h. omega arith) (λ h. omega (arith, h.0)) suits
+begun_few : (coding : Coding) (count : ℕ) (values : List ℤ) → 1 ≤ count
+    → SuitsSoFar coding count values → length values ≤ count
+begun_few DeltaConst count values some suits =
+    ⊎_elim (λ h. omega arith) (λ h. omega (arith, h.0)) suits
 begun_few Const count values some suits = omega (arith, suits.0)
 begun_few NearestDelta2 count values some suits = suits
 begun_few NearestDelta count values some suits = suits
 
 -- the first value alone
-one_begun : (coding : Coding) (first : ℤ) (count : ℕ) → is_const coding ≡ false → 1 ≤ count → IsInBounds first
+one_begun : (coding : Coding) (first : ℤ) (count : ℕ) → is_const coding ≡ false → 1 ≤ count
+    → IsInBounds first
     → IsBegun coding first count (first ∷ [])
 one_begun DeltaConst first count other some bound =
     record { begins = refl; bounds = all_from (first ∷ []) (bound, tt); suits = inl refl }
@@ -74,9 +78,11 @@ one_spelled NearestDelta2 first = refl
 one_spelled NearestDelta first = refl
 
 -- nothing is read
-broken_at_0 : (coding : Coding) (first : ℤ) (count : ℕ) (bytes : List ℕ) (at : ℕ) → is_const coding ≡ false → 1 ≤ count → IsInBounds first
+broken_at_0 : (coding : Coding) (first : ℤ) (count : ℕ) (bytes : List ℕ) (at : ℕ)
+    → is_const coding ≡ false → 1 ≤ count → IsInBounds first
     → decoded coding first count bytes ≡ Err at → at ≡ 0
-    → ((values : List ℤ) (more : List ℕ) → 1 < length values → IsBegun coding first count values → bytes ≡ spelling coding values ++ more → ⊥)
+    → ((values : List ℤ) (more : List ℕ) → 1 < length values → IsBegun coding first count values
+    → bytes ≡ spelling coding values ++ more → ⊥)
     → IsBroken coding first count bytes at
 broken_at_0 coding first count bytes at other some bound is place longest = record {
   read = first ∷ [];
@@ -89,27 +95,34 @@ broken_at_0 coding first count bytes at other some bound is place longest = reco
 }
 
 lone_broken : (coding : Coding) (first : ℤ) (count : ℕ) (bytes : List ℕ) (at : ℕ) → IsInBounds first
-    → decoded coding first count bytes ≡ Err at → (count == 1 && not (is_const coding)) ≡ true → IsBroken coding first count bytes at
+    → decoded coding first count bytes ≡ Err at → (count == 1 && not (is_const coding)) ≡ true
+    → IsBroken coding first count bytes at
 lone_broken coding first count bytes at bound is lone =
     let both = and_parts (count == 1) (not (is_const coding)) lone in
     let one : count ≡ 1 = eqb-true count 1 both.0 in
     let place = same_place at 0 (sym is ∙ decoded-lone coding first count bytes lone) in
-    broken_at_0 coding first count bytes at (not_true (is_const coding) both.1) (omega arith) bound is place
-    (λ values more longer begun parts. absurd (omega (arith, begun_few coding count values (omega arith) begun.suits)))
+    broken_at_0 coding first count bytes at (not_true (is_const coding) both.1) (omega arith) bound
+    is place
+    (λ values more longer begun parts.
+    absurd (omega (arith, begun_few coding count values (omega arith) begun.suits)))
   where
     not_true : (b : Bool) → not b ≡ true → b ≡ false
     not_true true h = absurd (cc)
     not_true false h = refl
 
 -- bytes are left
-so_far : (coding : Coding) (count : ℕ) (values : List ℤ) → length values ≡ count → Suits coding values → SuitsSoFar coding count values
+so_far : (coding : Coding) (count : ℕ) (values : List ℤ) → length values ≡ count
+    → Suits coding values → SuitsSoFar coding count values
 so_far DeltaConst count values len suits = inr (len, suits)
 so_far Const count values len suits = (len, suits)
 so_far NearestDelta2 count values len suits = omega arith
 so_far NearestDelta count values len suits = omega arith
 
-left_broken : (coding : Coding) (first : ℤ) (count : ℕ) (bytes : List ℕ) (at : ℕ) (values : List ℤ) (rest : List ℕ) → 1 ≤ count
-    → decoded coding first count bytes ≡ Err at → IsRead coding first count bytes values rest → at ≡ length bytes - length rest
+left_broken :
+    (coding : Coding) (first : ℤ) (count : ℕ) (bytes : List ℕ) (at : ℕ) (values : List ℤ)
+    (rest : List ℕ) → 1 ≤ count
+    → decoded coding first count bytes ≡ Err at → IsRead coding first count bytes values rest
+    → at ≡ length bytes - length rest
     → IsBroken coding first count bytes at
 left_broken coding first count bytes at values rest some is read place = record {
   read = values;
@@ -121,31 +134,44 @@ left_broken coding first count bytes at values rest some is read place = record 
   };
   parts = read.parts;
   place = omega (arith, ap length read.parts, length-append (spelling coding values) rest);
-  longest = λ longer more above begun parts. absurd (omega (arith, begun_few coding count longer some begun.suits, read.column.len));
+  longest =
+      λ longer more above begun parts.
+      absurd (omega (arith, begun_few coding count longer some begun.suits, read.column.len));
   wrong = no_column coding first count bytes at is;
 }
 
 -- an integer breaks
-nearest_suits : (coding : Coding) (count : ℕ) (values : List ℤ) → IsNearest coding → length values ≤ count → SuitsSoFar coding count values
+nearest_suits : (coding : Coding) (count : ℕ) (values : List ℤ) → IsNearest coding
+    → length values ≤ count → SuitsSoFar coding count values
 nearest_suits coding count values is few =
-    ⊎_elim (λ h. subst (λ c. SuitsSoFar c count values) (sym h) few) (λ h. subst (λ c. SuitsSoFar c count values) (sym h) few) is
+    ⊎_elim (λ h. subst (λ c. SuitsSoFar c count values) (sym h) few)
+    (λ h. subst (λ c. SuitsSoFar c count values) (sym h) few) is
 
-nearest_broken : (coding : Coding) (first : ℤ) (more : ℕ) (bytes : List ℕ) (at left : ℕ) → IsNearest coding → IsInBounds first
-    → decoded coding first (suc more) bytes ≡ Err at → at ≡ length bytes - left → IsStuck coding more first (pos 0) bytes left
+nearest_broken : (coding : Coding) (first : ℤ) (more : ℕ) (bytes : List ℕ) (at left : ℕ)
+    → IsNearest coding → IsInBounds first
+    → decoded coding first (suc more) bytes ≡ Err at → at ≡ length bytes - left
+    → IsStuck coding more first (pos 0) bytes left
     → IsBroken coding first (suc more) bytes at
 nearest_broken coding first more bytes at left nearest bound is place stuck =
     let text = spelling-nearest coding first stuck.read nearest in
-    let parts : bytes ≡ spelling coding (first ∷ stuck.read) ++ stuck.rest = stuck.parts ∙ ap (λ bs. bs ++ stuck.rest) (sym text) in
+    let parts : bytes ≡ spelling coding (first ∷ stuck.read) ++ stuck.rest = stuck.parts
+    ∙ ap (λ bs. bs ++ stuck.rest) (sym text) in
     record {
       read = first ∷ stuck.read;
       rest = stuck.rest;
       begun = record {
         begins = refl;
         bounds = all_from (first ∷ stuck.read) (bound, stuck.bounds);
-        suits = nearest_suits coding (suc more) (first ∷ stuck.read) nearest (omega (arith, stuck.few));
+        suits = nearest_suits coding (suc more) (first ∷ stuck.read) nearest
+            (omega (arith, stuck.few));
       };
       parts = parts;
-      place = omega (arith, ap length parts, length-append (spelling coding (first ∷ stuck.read)) stuck.rest, stuck.place);
+      place = omega (
+        arith,
+        ap length parts,
+        length-append (spelling coding (first ∷ stuck.read)) stuck.rest,
+        stuck.place,
+      );
       longest = λ values behind longer begun begins. begins_with values first begun.begins
           (λ others whole. stuck.longest others behind (omega (arith, ap length whole))
           (subst (AllByRecursion IsInBounds) whole (all_to values begun.bounds)).1
@@ -155,21 +181,32 @@ nearest_broken coding first more bytes at left nearest bound is place stuck =
     }
 
 steps_broken : (first : ℤ) (more : ℕ) (bytes : List ℕ) (at left : ℕ) → IsInBounds first
-    → decoded DeltaConst first (suc more) bytes ≡ Err at → at ≡ length bytes - left → left ≡ length bytes
-    → onto first (column_at DeltaConst first more bytes) ≡ Err left → IsBroken DeltaConst first (suc more) bytes at
+    → decoded DeltaConst first (suc more) bytes ≡ Err at → at ≡ length bytes - left
+    → left ≡ length bytes
+    → onto first (column_at DeltaConst first more bytes) ≡ Err left
+    → IsBroken DeltaConst first (suc more) bytes at
 steps_broken first more bytes at left bound is place all column =
     broken_at_0 DeltaConst first (suc more) bytes at refl (omega arith) bound is (omega arith)
     (λ values behind longer begun begins. ⊎_elim (λ one. absurd (omega arith))
     (λ whole.
     let one_less : suc more - 1 ≡ more = omega arith in
     let in_grammar : IsColumn DeltaConst first (suc more) (spelling DeltaConst values) values =
-    record { begins = begun.begins; len = whole.0; bounds = begun.bounds; suits = whole.1; spelled = refl } in
-    read_not_err (sym (column_again DeltaConst first (suc more) (spelling DeltaConst values) values behind in_grammar)
+    record {
+      begins = begun.begins;
+      len = whole.0;
+      bounds = begun.bounds;
+      suits = whole.1;
+      spelled = refl;
+    } in
+    read_not_err
+    (sym (column_again DeltaConst first (suc more) (spelling DeltaConst values) values behind
+    in_grammar)
     ∙ ap₂ (λ n bs. onto first (column_at DeltaConst first n bs)) one_less (sym begins) ∙ column))
     begun.suits)
 
 -- equal differences break before their integer is taken
-steps_by-err : (o : Option (ℕ × List ℕ)) (count : ℕ) (first : ℤ) (all left : ℕ) → steps_by o count first all ≡ Err left → left ≡ all
+steps_by-err : (o : Option (ℕ × List ℕ)) (count : ℕ) (first : ℤ) (all left : ℕ)
+    → steps_by o count first all ≡ Err left → left ≡ all
 steps_by-err None count first all left is = sym (same_left all left is)
 steps_by-err (Some x) count first all left is = go (steps_from count first (unzigzag x.0)) is
   where
@@ -177,13 +214,16 @@ steps_by-err (Some x) count first all left is = go (steps_from count first (unzi
     go None is = sym (same_left all left is)
     go (Some vs) is = absurd (read_not_err is)
 
-stuck_broken : (coding : Coding) (first : ℤ) (more : ℕ) (bytes : List ℕ) (at left : ℕ) → AreBytes bytes → IsInBounds first
+stuck_broken : (coding : Coding) (first : ℤ) (more : ℕ) (bytes : List ℕ) (at left : ℕ)
+    → AreBytes bytes → IsInBounds first
     → decoded coding first (suc more) bytes ≡ Err at → at ≡ length bytes - left
-    → onto first (column_at coding first more bytes) ≡ Err left → IsBroken coding first (suc more) bytes at
+    → onto first (column_at coding first more bytes) ≡ Err left
+    → IsBroken coding first (suc more) bytes at
 stuck_broken DeltaConst first more bytes at left are bound is place column =
     let inner = onto-err first (column_at DeltaConst first more bytes) left column in
     steps_broken first more bytes at left bound is place
-    (steps_by-err (number_at bytes) more first (length bytes) left (sym (column_at-steps first more bytes) ∙ inner)) column
+    (steps_by-err (number_at bytes) more first (length bytes) left
+    (sym (column_at-steps first more bytes) ∙ inner)) column
 stuck_broken Const first more bytes at left are bound is place column =
     let inner = onto-err first (column_at Const first more bytes) left column in
     absurd (read_not_err (sym (column_at-const first more bytes) ∙ inner))
@@ -198,21 +238,28 @@ stuck_broken NearestDelta first more bytes at left are bound is place column =
     (values_stuck_at NearestDelta more first (pos 0) bytes left are bound (omega arith)
     (sym (differences_column NearestDelta first more bytes (inr refl)) ∙ inner))
 
-not_lone_broken : (coding : Coding) (first : ℤ) (more : ℕ) (bytes : List ℕ) (at : ℕ) → AreBytes bytes → IsInBounds first
-    → decoded coding first (suc more) bytes ≡ Err at → (suc more == 1 && not (is_const coding)) ≡ false
-    → (r : Result (List ℤ × List ℕ) ℕ) → onto first (column_at coding first more bytes) ≡ r → all_read (length bytes) r ≡ Err at
+not_lone_broken : (coding : Coding) (first : ℤ) (more : ℕ) (bytes : List ℕ) (at : ℕ)
+    → AreBytes bytes → IsInBounds first
+    → decoded coding first (suc more) bytes ≡ Err at
+    → (suc more == 1 && not (is_const coding)) ≡ false
+    → (r : Result (List ℤ × List ℕ) ℕ) → onto first (column_at coding first more bytes) ≡ r
+    → all_read (length bytes) r ≡ Err at
     → IsBroken coding first (suc more) bytes at
 not_lone_broken coding first more bytes at are bound is lone (Err left) column whole =
-    stuck_broken coding first more bytes at left are bound is (sym (same_place (length bytes - left) at whole)) column
+    stuck_broken coding first more bytes at left are bound is
+    (sym (same_place (length bytes - left) at whole)) column
 not_lone_broken coding first more bytes at are bound is lone (Ok r) column whole =
     let read = column_read coding first more bytes r.0 r.1 are bound lone column in
-    left_broken coding first (suc more) bytes at r.0 r.1 (omega arith) is read (left_place (length r.1 == 0) whole)
+    left_broken coding first (suc more) bytes at r.0 r.1 (omega arith) is read
+    (left_place (length r.1 == 0) whole)
   where
-    left_place : (none : Bool) → (if none then Ok r.0 else Err (length bytes - length r.1)) ≡ Err at → at ≡ length bytes - length r.1
+    left_place : (none : Bool) → (if none then Ok r.0 else Err (length bytes - length r.1)) ≡ Err at
+        → at ≡ length bytes - length r.1
     left_place true is = absurd (ok_not_err is)
     left_place false is = sym (same_place (length bytes - length r.1) at is)
 
-pub is_broken : (coding : Coding) (first : ℤ) (count : ℕ) (bytes : List ℕ) (at : ℕ) → AreBytes bytes → IsInBounds first → 1 ≤ count
+pub is_broken : (coding : Coding) (first : ℤ) (count : ℕ) (bytes : List ℕ) (at : ℕ) → AreBytes bytes
+    → IsInBounds first → 1 ≤ count
     → decoded coding first count bytes ≡ Err at → IsBroken coding first count bytes at
 is_broken coding first zero bytes at are bound some is = absurd (omega arith)
 is_broken coding first (suc more) bytes at are bound some is =
@@ -221,13 +268,16 @@ is_broken coding first (suc more) bytes at are bound some is =
     (λ other.
     let one_less : suc more - 1 ≡ more = omega arith in
     let whole = sym (decoded-column coding first (suc more) bytes other) ∙ is in
-    not_lone_broken coding first more bytes at are bound is other (onto first (column_at coding first more bytes)) refl
-    (ap (λ n. all_read (length bytes) (onto first (column_at coding first n bytes))) (sym one_less) ∙ whole))
+    not_lone_broken coding first more bytes at are bound is other
+    (onto first (column_at coding first more bytes)) refl
+    (ap (λ n. all_read (length bytes) (onto first (column_at coding first n bytes))) (sym one_less)
+    ∙ whole))
     (cases_Bool (suc more == 1 && not (is_const coding)))
 
 -- ---- bytes that are read
 
-pub is_column : (coding : Coding) (first : ℤ) (count : ℕ) (bytes : List ℕ) (values : List ℤ) → AreBytes bytes → IsInBounds first → 1 ≤ count
+pub is_column : (coding : Coding) (first : ℤ) (count : ℕ) (bytes : List ℕ) (values : List ℤ)
+    → AreBytes bytes → IsInBounds first → 1 ≤ count
     → decoded coding first count bytes ≡ Ok values → IsColumn coding first count bytes values
 is_column coding first zero bytes values are bound some is = absurd (omega arith)
 is_column coding first (suc more) bytes values are bound some is =
@@ -237,11 +287,13 @@ is_column coding first (suc more) bytes values are bound some is =
     let one_less : suc more - 1 ≡ more = omega arith in
     let whole = sym (decoded-column coding first (suc more) bytes other) ∙ is in
     all_of other (onto first (column_at coding first more bytes)) refl
-    (ap (λ n. all_read (length bytes) (onto first (column_at coding first n bytes))) (sym one_less) ∙ whole))
+    (ap (λ n. all_read (length bytes) (onto first (column_at coding first n bytes))) (sym one_less)
+    ∙ whole))
     (cases_Bool (suc more == 1 && not (is_const coding)))
   where
     all_of : (suc more == 1 && not (is_const coding)) ≡ false
-        → (r : Result (List ℤ × List ℕ) ℕ) → onto first (column_at coding first more bytes) ≡ r → all_read (length bytes) r ≡ Ok values
+        → (r : Result (List ℤ × List ℕ) ℕ) → onto first (column_at coding first more bytes) ≡ r
+        → all_read (length bytes) r ≡ Ok values
         → IsColumn coding first (suc more) bytes values
     all_of other (Err left) column whole = absurd (ok_not_err (sym whole))
     all_of other (Ok r) column whole =
@@ -250,10 +302,12 @@ is_column coding first (suc more) bytes values are bound some is =
       where
         nothing_behind : (none : Bool) → (length r.1 == 0) ≡ none
             → (if none then Ok r.0 else Err (length bytes - length r.1)) ≡ Ok values
-            → IsRead coding first (suc more) bytes r.0 r.1 → IsColumn coding first (suc more) bytes values
+            → IsRead coding first (suc more) bytes r.0 r.1
+            → IsColumn coding first (suc more) bytes values
         nothing_behind true none is read =
             let same : r.0 ≡ values = same_values (r.0) values is in
-            let text : bytes ≡ spelling coding r.0 = read.parts ∙ no_rest (spelling coding r.0) r.1 (eqb-true (length r.1) 0 none) in
+            let text : bytes ≡ spelling coding r.0 = read.parts
+            ∙ no_rest (spelling coding r.0) r.1 (eqb-true (length r.1) 0 none) in
             subst (IsColumn coding first (suc more) bytes) same
             (record {
               begins = read.column.begins;
@@ -266,10 +320,16 @@ is_column coding first (suc more) bytes values are bound some is =
 
 -- ---- a column is read as its values
 
-pub is_again : (coding : Coding) (first : ℤ) (count : ℕ) (bytes : List ℕ) (values : List ℤ) (result : Result (Unit {0}) Broken) (into : List ℤ)
-    → OnOk result (decoded coding first count bytes ≡ Ok into) → IfErr result (λ e. decoded coding first count bytes ≡ Err e.at)
+pub is_again :
+    (coding : Coding) (first : ℤ) (count : ℕ) (bytes : List ℕ) (values : List ℤ)
+    (result : Result (Unit {0}) Broken) (into : List ℤ)
+    → OnOk result (decoded coding first count bytes ≡ Ok into)
+    → IfErr result (λ e. decoded coding first count bytes ≡ Err e.at)
     → IsColumn coding first count bytes values → (result ≡ Ok tt) × (into ≡ values)
-is_again coding first count bytes values (Ok u) into read broken column =
-    (refl, same_values into values (sym read ∙ decoded_again coding first count bytes values column))
+is_again coding first count bytes values (Ok u) into read broken column = (
+  refl,
+  same_values into values
+      (sym read ∙ decoded_again coding first count bytes values column),
+)
 is_again coding first count bytes values (Err e) into read broken column =
     absurd (no_column coding first count bytes e.at broken values column)

@@ -22,11 +22,13 @@ bytes_from [] each = tt
 bytes_from (byte ∷ bytes) each = (each 0, bytes_from bytes (λ i. each (suc i)))
 
 -- a choice that isn't none
-kept_some : {A : Type 0} (b : Bool) (x y : A) → (if b then None else Some x) ≡ Some y → (b ≡ false) × (x ≡ y)
+kept_some : {A : Type 0} (b : Bool) (x y : A) → (if b then None else Some x) ≡ Some y → (b ≡ false)
+    × (x ≡ y)
 kept_some true x y is = absurd (cc)
 kept_some false x y is = (refl, cc)
 
-pub some_if : {A : Type 0} (b : Bool) (x y : A) → (if b then Some x else None) ≡ Some y → (b ≡ true) × (x ≡ y)
+pub some_if : {A : Type 0} (b : Bool) (x y : A) → (if b then Some x else None) ≡ Some y → (b ≡ true)
+    × (x ≡ y)
 some_if true x y is = (refl, cc)
 some_if false x y is = absurd (cc)
 
@@ -39,7 +41,8 @@ pub groups-last : (more number : ℕ) → number < 128 → groups (suc more) num
 unfolding groups
 groups-last more number low = rw (lt-ltb number 128 low) refl
 
-pub groups-more : (more number : ℕ) → 128 ≤ number → groups (suc more) number ≡ (number % 128 + 128) ∷ groups more (number / 128)
+pub groups-more : (more number : ℕ) → 128 ≤ number
+    → groups (suc more) number ≡ (number % 128 + 128) ∷ groups more (number / 128)
 unfolding groups
 groups-more more number high = rw (le-ltb number 128 high) refl
 
@@ -52,7 +55,8 @@ unfolding groups_at
 groups_at-nil more = refl
 
 -- the groups after one
-spelled_more : (more byte high number : ℕ) → 128 ≤ byte → byte < 256 → 0 < high → number ≡ byte - 128 + 128 * high
+spelled_more : (more byte high number : ℕ) → 128 ≤ byte → byte < 256 → 0 < high
+    → number ≡ byte - 128 + 128 * high
     → groups (suc more) number ≡ byte ∷ groups more high
 spelled_more more byte high number at_least below some is =
     let low : number % 128 + 128 ≡ byte = omega arith in
@@ -65,7 +69,9 @@ IsSame r s = r ≡ s
 abbrev IsTaken : ℕ → List ℕ → ℕ → List ℕ → Type 0
 IsTaken more bytes number rest = (bytes ≡ groups more number ++ rest) × AreBytes rest
 
-one_group_more : (more byte : ℕ) (bytes : List ℕ) (number : ℕ) (rest : List ℕ) (high : ℕ) (after : List ℕ) → 128 ≤ byte
+one_group_more :
+    (more byte : ℕ) (bytes : List ℕ) (number : ℕ) (rest : List ℕ) (high : ℕ) (after : List ℕ)
+    → 128 ≤ byte
     → AreBytes (byte ∷ bytes) → IsTaken more bytes high after
     → ((high == 0) ≡ false) × (IsSame (byte - 128 + 128 * high, after) (number, rest))
     → IsTaken (suc more) (byte ∷ bytes) number rest
@@ -73,25 +79,35 @@ one_group_more more byte bytes number rest high after at_least are taken kept =
     let some : high ≡ 0 → ⊥ = eqb-false high 0 kept.0 in
     let value : byte - 128 + 128 * high ≡ number = ap (λ (r : ℕ × List ℕ). r.0) kept.1 in
     let left : after ≡ rest = ap (λ (r : ℕ × List ℕ). r.1) kept.1 in
-    let text = spelled_more more byte high number at_least are.0 (omega arith) (sym value) in
-    (rw text (ap (λ bs. byte ∷ bs) (taken.0 ∙ ap (λ bs. groups more high ++ bs) left)), subst AreBytes left taken.1)
+    let text = spelled_more more byte high number at_least are.0 (omega arith) (sym value) in (
+      rw text (ap (λ bs. byte ∷ bs) (taken.0 ∙ ap (λ bs. groups more high ++ bs) left)),
+      subst AreBytes left taken.1,
+    )
 
-one_or_more : (more byte : ℕ) (bytes : List ℕ) (number : ℕ) (rest : List ℕ) → AreBytes (byte ∷ bytes)
-    → ((high : ℕ) (after : List ℕ) → AreBytes bytes → groups_at more bytes ≡ Some (high, after) → IsTaken more bytes high after)
-    → groups_at (suc more) (byte ∷ bytes) ≡ Some (number, rest) → IsTaken (suc more) (byte ∷ bytes) number rest
+one_or_more : (more byte : ℕ) (bytes : List ℕ) (number : ℕ) (rest : List ℕ)
+    → AreBytes (byte ∷ bytes)
+    → ((high : ℕ) (after : List ℕ) → AreBytes bytes → groups_at more bytes ≡ Some (high, after)
+    → IsTaken more bytes high after)
+    → groups_at (suc more) (byte ∷ bytes) ≡ Some (number, rest)
+    → IsTaken (suc more) (byte ∷ bytes) number rest
 one_or_more more byte bytes number rest are others is =
     elim (cases_lt byte 128) [
       | inl low ↦
-          let pair : Some (byte, bytes) ≡ Some (number, rest) = sym (groups_at-last more byte bytes low) ∙ is in
+          let pair : Some (byte, bytes) ≡ Some (number, rest) =
+          sym (groups_at-last more byte bytes low) ∙ is in
           let same = same_some (byte, bytes) (number, rest) pair in
           let value : byte ≡ number = ap (λ (r : ℕ × List ℕ). r.0) same in
           let after : bytes ≡ rest = ap (λ (r : ℕ × List ℕ). r.1) same in
-          let text : groups (suc more) number ≡ byte ∷ [] = ap (groups (suc more)) (sym value) ∙ groups-last more byte low in
+          let text : groups (suc more) number ≡ byte ∷ [] = ap (groups (suc more)) (sym value)
+          ∙ groups-last more byte low in
           (rw (text, after) refl, subst AreBytes after are.1)
       | inr high ↦
-          option_and_then_some (λ r. if r.0 == 0 then None else Some (byte - 128 + 128 * r.0, r.1)) (groups_at more bytes) (number, rest)
+          option_and_then_some (λ r. if r.0 == 0 then None else Some (byte - 128 + 128 * r.0, r.1))
+          (groups_at more bytes) (number, rest)
           (sym (groups_at-more more byte bytes high) ∙ is)
-          (λ x read kept. one_group_more more byte bytes number rest x.0 x.1 high are (others x.0 x.1 are.1 read)
+          (λ x read kept.
+          one_group_more more byte bytes number rest x.0 x.1 high are
+          (others x.0 x.1 are.1 read)
           (kept_some (x.0 == 0) (byte - 128 + 128 * x.0, x.1) (number, rest) kept))
     ]
 
@@ -101,7 +117,8 @@ groups_takes zero bytes number rest are is =
     let none = groups_at-zero bytes in absurd (cc)
 groups_takes (suc more) [] number rest are is =
     let none = groups_at-nil more in absurd (cc)
-groups_takes (suc more) (byte ∷ bytes) number rest are is = one_or_more more byte bytes number rest are (groups_takes more bytes) is
+groups_takes (suc more) (byte ∷ bytes) number rest are is =
+    one_or_more more byte bytes number rest are (groups_takes more bytes) is
 
 -- a number of so many groups is read from its spelling
 groups_again : (more number : ℕ) (rest : List ℕ) → number < 128 ^ suc more
@@ -113,35 +130,44 @@ groups_again (suc more) number rest small =
     elim (cases_lt number 128) [
       | inl low ↦ rw (groups-last (suc more) number low) (groups_at-last (suc more) number rest low)
       | inr high ↦
-          let below : number / 128 < 128 ^ suc more = omega (arith, pow-suc 128 (suc more), div_below number 128 (128 ^ suc more)) in
+          let below : number / 128 < 128 ^ suc more =
+          omega (arith, pow-suc 128 (suc more), div_below number 128 (128 ^ suc more)) in
           let others = groups_again more (number / 128) rest below in
           let some : (number / 128 == 0) ≡ false = ne_eqb (number / 128) 0 (λ h. omega arith) in
           let whole : number % 128 + 128 - 128 + 128 * (number / 128) ≡ number = omega arith in
           rw (groups-more (suc more) number high)
-          (groups_at-more (suc more) (number % 128 + 128) (groups (suc more) (number / 128) ++ rest) (omega arith)
+          (groups_at-more (suc more) (number % 128 + 128) (groups (suc more) (number / 128) ++ rest)
+          (omega arith)
           ∙ rw (others, some, whole) refl)
     ]
 
 -- ---- numbers of 64 bits
 
-pub number_takes : (bytes : List ℕ) (number : ℕ) (rest : List ℕ) → AreBytes bytes → number_at bytes ≡ Some (number, rest)
+pub number_takes : (bytes : List ℕ) (number : ℕ) (rest : List ℕ) → AreBytes bytes
+    → number_at bytes ≡ Some (number, rest)
     → (bytes ≡ groups 10 number ++ rest) × AreBytes rest
 unfolding number_at
 number_takes bytes number rest are is =
-    option_and_then_some (λ r. if nat_lt r.0 (2 ^ 64) then Some r else None) (groups_at 10 bytes) (number, rest) is
-    (λ x read kept. subst (λ (r : ℕ × List ℕ). IsTaken 10 bytes r.0 r.1) (some_if (nat_lt x.0 (2 ^ 64)) x (number, rest) kept).1
+    option_and_then_some (λ r. if nat_lt r.0 (2 ^ 64) then Some r else None) (groups_at 10 bytes)
+    (number, rest) is
+    (λ x read kept.
+    subst (λ (r : ℕ × List ℕ). IsTaken 10 bytes r.0 r.1)
+    (some_if (nat_lt x.0 (2 ^ 64)) x (number, rest) kept).1
     (groups_takes 10 bytes x.0 x.1 are read))
 
-pub number_again : (number : ℕ) (rest : List ℕ) → number < 2 ^ 64 → number_at (groups 10 number ++ rest) ≡ Some (number, rest)
+pub number_again : (number : ℕ) (rest : List ℕ) → number < 2 ^ 64
+    → number_at (groups 10 number ++ rest) ≡ Some (number, rest)
 unfolding number_at
 number_again number rest small =
-    ap in_64_bits (groups_again 9 number rest (omega arith)) ∙ rw (lt-ltb number (2 ^ 64) small) refl
+    ap in_64_bits (groups_again 9 number rest (omega arith))
+    ∙ rw (lt-ltb number (2 ^ 64) small) refl
 
 -- ---- zigzag
 
 pub unzigzag-zigzag : (z : ℤ) → unzigzag (zigzag z) ≡ z
 unzigzag-zigzag (pos n) = rw (eq-eqb (2 * n % 2) 0 (omega arith)) (ap pos (omega arith))
-unzigzag-zigzag (negsuc n) = rw (ne_eqb ((2 * n + 1) % 2) 0 (λ h. omega arith)) (ap negsuc (omega arith))
+unzigzag-zigzag (negsuc n) =
+    rw (ne_eqb ((2 * n + 1) % 2) 0 (λ h. omega arith)) (ap negsuc (omega arith))
 
 pub zigzag-unzigzag : (n : ℕ) → zigzag (unzigzag n) ≡ n
 zigzag-unzigzag n =
@@ -178,7 +204,8 @@ pub record IsNext (value lean : ℤ) (bytes : List ℕ) (next : ℤ) (rest : Lis
   pub bound : IsInBounds next
 
 next_from : (value lean : ℤ) (bytes : List ℕ) (number : ℕ) (rest : List ℕ) (next : ℤ)
-    → ((bytes ≡ groups 10 number ++ rest) × AreBytes rest) → bounded (value +ℤ lean +ℤ unzigzag number) ≡ Some next
+    → ((bytes ≡ groups 10 number ++ rest) × AreBytes rest)
+    → bounded (value +ℤ lean +ℤ unzigzag number) ≡ Some next
     → IsNext value lean bytes next rest
 next_from value lean bytes number rest next taken is =
     let kept = bounded_some (value +ℤ lean +ℤ unzigzag number) next is in
@@ -191,36 +218,47 @@ pub next_takes : (value lean : ℤ) (bytes : List ℕ) (next : ℤ) (rest : List
     → next_at value lean bytes ≡ Some (next, rest) → IsNext value lean bytes next rest
 unfolding next_at
 next_takes value lean bytes next rest are is =
-    option_and_then_some (λ r. option_map (λ next. (next, r.1)) (bounded (value +ℤ lean +ℤ unzigzag r.0))) (number_at bytes)
+    option_and_then_some
+    (λ r. option_map (λ next. (next, r.1)) (bounded (value +ℤ lean +ℤ unzigzag r.0)))
+    (number_at bytes)
     (next, rest) is
-    (λ x read kept. go x.0 x.1 (number_takes bytes x.0 x.1 are read) (bounded (value +ℤ lean +ℤ unzigzag x.0)) refl kept)
+    (λ x read kept.
+    go x.0 x.1 (number_takes bytes x.0 x.1 are read) (bounded (value +ℤ lean +ℤ unzigzag x.0))
+    refl kept)
   where
     go : (number : ℕ) (after : List ℕ) → ((bytes ≡ groups 10 number ++ after) × AreBytes after)
         → (o : Option ℤ) → bounded (value +ℤ lean +ℤ unzigzag number) ≡ o
-        → option_map {T = ℤ} {U = ℤ × List ℕ} (λ next. (next, after)) o ≡ Some (next, rest) → IsNext value lean bytes next rest
+        → option_map {T = ℤ} {U = ℤ × List ℕ} (λ next. (next, after)) o ≡ Some (next, rest)
+        → IsNext value lean bytes next rest
     go number after taken None bound kept = absurd (cc)
     go number after taken (Some n) bound kept =
         let same = same_some (n, after) (next, rest) kept in
-        subst (λ (r : ℤ × List ℕ). IsNext value lean bytes r.0 r.1) same (next_from value lean bytes number after n taken bound)
+        subst (λ (r : ℤ × List ℕ). IsNext value lean bytes r.0 r.1) same
+        (next_from value lean bytes number after n taken bound)
 
 -- the zigzag of what is spelled fits 64 bits
-pub step_fits : (value lean next : ℤ) → IsInBounds value → unsigned_abs lean < 2 * 10 ^ 18 → IsInBounds next
+pub step_fits : (value lean next : ℤ) → IsInBounds value → unsigned_abs lean < 2 * 10 ^ 18
+    → IsInBounds next
     → zigzag (next -ℤ value -ℤ lean) < 2 ^ 63
 step_fits value lean next v l n =
     let small : unsigned_abs (next -ℤ value -ℤ lean) < 4 * 10 ^ 18 = omega (arith, ints) in
     omega (arith, zigzag_small (next -ℤ value -ℤ lean))
 
-pub next_again : (value lean next : ℤ) (rest : List ℕ) → IsInBounds value → unsigned_abs lean < 2 * 10 ^ 18 → IsInBounds next
+pub next_again : (value lean next : ℤ) (rest : List ℕ) → IsInBounds value
+    → unsigned_abs lean < 2 * 10 ^ 18 → IsInBounds next
     → next_at value lean (integer (next -ℤ value -ℤ lean) ++ rest) ≡ Some (next, rest)
 unfolding next_at
 next_again value lean next rest v l n =
     let fits = step_fits value lean next v l n in
     let whole : value +ℤ lean +ℤ unzigzag (zigzag (next -ℤ value -ℤ lean)) ≡ next =
-    ap (λ s. value +ℤ lean +ℤ s) (unzigzag-zigzag (next -ℤ value -ℤ lean)) ∙ step_on value lean next in
+    ap (λ s. value +ℤ lean +ℤ s) (unzigzag-zigzag (next -ℤ value -ℤ lean))
+    ∙ step_on value lean next in
     rw (number_again (zigzag (next -ℤ value -ℤ lean)) rest (omega arith))
-    (ap (λ v. option_map (λ next. (next, rest)) (bounded v)) whole ∙ ap (option_map (λ next. (next, rest))) (bounded_again next n))
+    (ap (λ v. option_map (λ next. (next, rest)) (bounded v)) whole
+    ∙ ap (option_map (λ next. (next, rest))) (bounded_again next n))
 
-pub difference_fits : (value next : ℤ) → IsInBounds value → IsInBounds next → zigzag (next -ℤ value) < 2 ^ 64
+pub difference_fits : (value next : ℤ) → IsInBounds value → IsInBounds next
+    → zigzag (next -ℤ value) < 2 ^ 64
 difference_fits value next v n =
     let small : unsigned_abs (next -ℤ value) < 2 * 10 ^ 18 = omega (arith, ints) in
     omega (arith, zigzag_small (next -ℤ value))

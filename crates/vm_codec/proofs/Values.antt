@@ -11,7 +11,8 @@ use Rattle.vm_codec.specs.declared.coding.Coding.TheVariants.{DeltaConst, Const,
 use Rattle.vm_codec.specs.inner.Reading.{decoded, is_const, number_at, column_at, steps_then, bounded, steps_from, values_at, next_at, lean_after, onto, all_read}
 
 -- a value written at the first place
-pub take_first : (into : List ℤ) (value : ℤ) → 1 ≤ length into → take 1 (set into 0 value) ≡ value ∷ []
+pub take_first : (into : List ℤ) (value : ℤ) → 1 ≤ length into
+    → take 1 (set into 0 value) ≡ value ∷ []
 take_first [] value some = absurd (omega arith)
 take_first (v ∷ into) value some = refl
 
@@ -22,43 +23,56 @@ abbrev pub behind_values : List ℤ → Option (List ℤ) → Option (List ℤ)
 behind_values front others = option_map (λ others. front ++ others) others
 
 pub one_step : (more : ℕ) (value step next : ℤ) → bounded (value +ℤ step) ≡ Some next
-    → steps_from (suc more) value step ≡ option_map (λ others. next ∷ others) (steps_from more next step)
+    → steps_from (suc more) value step
+    ≡ option_map (λ others. next ∷ others) (steps_from more next step)
 unfolding steps_from
 one_step more value step next is = rw is refl
 
-pub no_step : (more : ℕ) (value step : ℤ) → bounded (value +ℤ step) ≡ None → steps_from (suc more) value step ≡ None
+pub no_step : (more : ℕ) (value step : ℤ) → bounded (value +ℤ step) ≡ None
+    → steps_from (suc more) value step ≡ None
 unfolding steps_from
 no_step more value step is = rw is refl
 
 regroup_values : (front : List ℤ) (next : ℤ) (others : Option (List ℤ))
-    → behind_values front (option_map (λ others. next ∷ others) others) ≡ behind_values (front ++ next ∷ []) others
+    → behind_values front (option_map (λ others. next ∷ others) others)
+    ≡ behind_values (front ++ next ∷ []) others
 regroup_values front next None = refl
-regroup_values front next (Some others) = ap (λ (vs : List ℤ). Some vs) (sym (append_assoc front (next ∷ []) others))
+regroup_values front next (Some others) =
+    ap (λ (vs : List ℤ). Some vs) (sym (append_assoc front (next ∷ []) others))
 
 -- the same values, from what is the same
-pub same_steps : (first first' step step' : ℤ) (len len' : ℕ) → first ≡ first' → step ≡ step' → len ≡ len'
+pub same_steps : (first first' step step' : ℤ) (len len' : ℕ) → first ≡ first' → step ≡ step'
+    → len ≡ len'
     → option_map (λ others. first' ∷ others) (steps_from len' first' step')
     ≡ option_map (λ others. first ∷ others) (steps_from len first step)
 same_steps first first' step step' len len' f s n = rw (f, s, n) refl
 
-pub steps_more : (place : ℕ) (value step put next : ℤ) (into : List ℤ) (total : Option (List ℤ)) → place < length into
+pub steps_more : (place : ℕ) (value step put next : ℤ) (into : List ℤ) (total : Option (List ℤ))
+    → place < length into
     → bounded (value +ℤ step) ≡ Some next → put ≡ next
     → behind_values (take place into) (steps_from (length into - place) value step) ≡ total
-    → behind_values (take (place + 1) (set into place put)) (steps_from (length (set into place put) - (place + 1)) put step) ≡ total
+    → behind_values (take (place + 1) (set into place put))
+    (steps_from (length (set into place put) - (place + 1)) put step) ≡ total
 steps_more place value step put next into total within is same so_far =
-    let goal : ℤ → Type 0 = λ put. behind_values (take (place + 1) (set into place put)) (steps_from (length (set into place put) - (place + 1)) put step) ≡ total in
+    let goal : ℤ → Type 0 =
+    λ put. behind_values (take (place + 1) (set into place put))
+    (steps_from (length (set into place put) - (place + 1)) put step) ≡ total in
     subst goal (sym same) (
     let left : length into - place ≡ suc (length into - (place + 1)) = omega arith in
-    let front : take (place + 1) (set into place next) ≡ take place into ++ next ∷ [] = take_more_set into place next within in
+    let front : take (place + 1) (set into place next) ≡ take place into ++ next ∷ [] =
+    take_more_set into place next within in
     let len : length (set into place next) ≡ length into = length-set into place next in
     rw (front, len)
     (sym (regroup_values (take place into) next (steps_from (length into - (place + 1)) next step))
-    ∙ ap (behind_values (take place into)) (sym (one_step (length into - (place + 1)) value step next is))
+    ∙ ap (behind_values (take place into))
+    (sym (one_step (length into - (place + 1)) value step next is))
     ∙ ap (λ n. behind_values (take place into) (steps_from n value step)) (sym left) ∙ so_far))
 
-pub steps_stuck : (place : ℕ) (value step : ℤ) (into : List ℤ) (total : Option (List ℤ)) → place < length into
+pub steps_stuck : (place : ℕ) (value step : ℤ) (into : List ℤ) (total : Option (List ℤ))
+    → place < length into
     → bounded (value +ℤ step) ≡ None
-    → behind_values (take place into) (steps_from (length into - place) value step) ≡ total → total ≡ None
+    → behind_values (take place into) (steps_from (length into - place) value step) ≡ total
+    → total ≡ None
 steps_stuck place value step into total within is so_far =
     let left : length into - place ≡ suc (length into - (place + 1)) = omega arith in
     sym so_far ∙ ap (λ n. behind_values (take place into) (steps_from n value step)) left
@@ -68,8 +82,10 @@ pub steps_zero : (value step : ℤ) → steps_from 0 value step ≡ Some []
 unfolding steps_from
 steps_zero value step = refl
 
-pub steps_done : (place : ℕ) (value step : ℤ) (into : List ℤ) (total : Option (List ℤ)) → length into ≤ place
-    → behind_values (take place into) (steps_from (length into - place) value step) ≡ total → total ≡ Some into
+pub steps_done : (place : ℕ) (value step : ℤ) (into : List ℤ) (total : Option (List ℤ))
+    → length into ≤ place
+    → behind_values (take place into) (steps_from (length into - place) value step) ≡ total
+    → total ≡ Some into
 steps_done place value step into total end so_far =
     let left : length into - place ≡ 0 = omega arith in
     sym so_far ∙ ap (λ n. behind_values (take place into) (steps_from n value step)) left
@@ -83,58 +99,86 @@ abbrev pub with_front : List ℤ → Result (List ℤ × List ℕ) ℕ → Resul
 with_front front (Ok r) = Ok (front ++ r.0, r.1)
 with_front front (Err left) = Err left
 
-pub one_value : (coding : Coding) (more : ℕ) (value lean next : ℤ) (bytes rest : List ℕ) → next_at value lean bytes ≡ Some (next, rest)
-    → values_at coding (suc more) value lean bytes ≡ onto next (values_at coding more next (lean_after coding (next -ℤ value)) rest)
+pub one_value : (coding : Coding) (more : ℕ) (value lean next : ℤ) (bytes rest : List ℕ)
+    → next_at value lean bytes ≡ Some (next, rest)
+    → values_at coding (suc more) value lean bytes
+    ≡ onto next (values_at coding more next (lean_after coding (next -ℤ value)) rest)
 unfolding values_at
 one_value coding more value lean next bytes rest is = rw is refl
 
-pub no_value : (coding : Coding) (more : ℕ) (value lean : ℤ) (bytes : List ℕ) → next_at value lean bytes ≡ None
+pub no_value : (coding : Coding) (more : ℕ) (value lean : ℤ) (bytes : List ℕ)
+    → next_at value lean bytes ≡ None
     → values_at coding (suc more) value lean bytes ≡ Err (length bytes)
 unfolding values_at
 no_value coding more value lean bytes is = rw is refl
 
-pub values_zero : (coding : Coding) (value lean : ℤ) (bytes : List ℕ) → values_at coding 0 value lean bytes ≡ Ok ([], bytes)
+pub values_zero : (coding : Coding) (value lean : ℤ) (bytes : List ℕ)
+    → values_at coding 0 value lean bytes ≡ Ok ([], bytes)
 unfolding values_at
 values_zero coding value lean bytes = refl
 
-regroup : (front : List ℤ) (next : ℤ) (r : Result (List ℤ × List ℕ) ℕ) → with_front front (onto next r) ≡ with_front (front ++ next ∷ []) r
-regroup front next (Ok r) = ap (λ (vs : List ℤ). Ok (vs, r.1)) (sym (append_assoc front (next ∷ []) r.0))
+regroup : (front : List ℤ) (next : ℤ) (r : Result (List ℤ × List ℕ) ℕ)
+    → with_front front (onto next r) ≡ with_front (front ++ next ∷ []) r
+regroup front next (Ok r) =
+    ap (λ (vs : List ℤ). Ok (vs, r.1)) (sym (append_assoc front (next ∷ []) r.0))
 regroup front next (Err left) = refl
 
-pub first_front : (first : ℤ) (r : Result (List ℤ × List ℕ) ℕ) → with_front (first ∷ []) r ≡ onto first r
+pub first_front : (first : ℤ) (r : Result (List ℤ × List ℕ) ℕ)
+    → with_front (first ∷ []) r ≡ onto first r
 first_front first (Ok r) = refl
 first_front first (Err left) = refl
 
-pub same_values : (coding : Coding) (first first' : ℤ) (len len' : ℕ) (bytes : List ℕ) → first ≡ first' → len ≡ len'
-    → onto first' (values_at coding len' first' (pos 0) bytes) ≡ onto first (values_at coding len first (pos 0) bytes)
+pub same_values : (coding : Coding) (first first' : ℤ) (len len' : ℕ) (bytes : List ℕ)
+    → first ≡ first' → len ≡ len'
+    → onto first' (values_at coding len' first' (pos 0) bytes)
+    ≡ onto first (values_at coding len first (pos 0) bytes)
 same_values coding first first' len len' bytes f n = rw (f, n) refl
 
-pub values_more : (coding : Coding) (place : ℕ) (value lean put next after : ℤ) (into : List ℤ) (bytes rest : List ℕ) (total : Result (List ℤ × List ℕ) ℕ)
-    → place < length into → next_at value lean bytes ≡ Some (next, rest) → after ≡ lean_after coding (next -ℤ value) → put ≡ next
+pub values_more :
+    (coding : Coding) (place : ℕ) (value lean put next after : ℤ) (into : List ℤ)
+    (bytes rest : List ℕ) (total : Result (List ℤ × List ℕ) ℕ)
+    → place < length into → next_at value lean bytes ≡ Some (next, rest)
+    → after ≡ lean_after coding (next -ℤ value) → put ≡ next
     → with_front (take place into) (values_at coding (length into - place) value lean bytes) ≡ total
-    → with_front (take (place + 1) (set into place put)) (values_at coding (length (set into place put) - (place + 1)) put after rest) ≡ total
-values_more coding place value lean put next after into bytes rest total within is then_lean same so_far =
-    let goal : ℤ → Type 0 = λ put. with_front (take (place + 1) (set into place put)) (values_at coding (length (set into place put) - (place + 1)) put after rest) ≡ total in
+    → with_front (take (place + 1) (set into place put))
+    (values_at coding (length (set into place put) - (place + 1)) put after rest) ≡ total
+values_more coding place value lean put next after into bytes rest total within is then_lean same
+    so_far =
+    let goal : ℤ → Type 0 =
+    λ put. with_front (take (place + 1) (set into place put))
+    (values_at coding (length (set into place put) - (place + 1)) put after rest) ≡ total in
     subst goal (sym same) (
     let left : length into - place ≡ suc (length into - (place + 1)) = omega arith in
-    let front : take (place + 1) (set into place next) ≡ take place into ++ next ∷ [] = take_more_set into place next within in
+    let front : take (place + 1) (set into place next) ≡ take place into ++ next ∷ [] =
+    take_more_set into place next within in
     let len : length (set into place next) ≡ length into = length-set into place next in
     rw (front, len, then_lean)
-    (sym (regroup (take place into) next (values_at coding (length into - (place + 1)) next (lean_after coding (next -ℤ value)) rest))
-    ∙ ap (with_front (take place into)) (sym (one_value coding (length into - (place + 1)) value lean next bytes rest is))
-    ∙ ap (λ n. with_front (take place into) (values_at coding n value lean bytes)) (sym left) ∙ so_far))
+    (sym (regroup (take place into) next
+    (values_at coding (length into - (place + 1)) next (lean_after coding (next -ℤ value))
+    rest))
+    ∙ ap (with_front (take place into))
+    (sym (one_value coding (length into - (place + 1)) value lean next bytes rest is))
+    ∙ ap (λ n. with_front (take place into) (values_at coding n value lean bytes)) (sym left)
+    ∙ so_far))
 
-pub values_stuck : (coding : Coding) (place : ℕ) (value lean : ℤ) (into : List ℤ) (bytes : List ℕ) (total : Result (List ℤ × List ℕ) ℕ)
+pub values_stuck :
+    (coding : Coding) (place : ℕ) (value lean : ℤ) (into : List ℤ) (bytes : List ℕ)
+    (total : Result (List ℤ × List ℕ) ℕ)
     → place < length into → next_at value lean bytes ≡ None
-    → with_front (take place into) (values_at coding (length into - place) value lean bytes) ≡ total → total ≡ Err (length bytes)
+    → with_front (take place into) (values_at coding (length into - place) value lean bytes) ≡ total
+    → total ≡ Err (length bytes)
 values_stuck coding place value lean into bytes total within is so_far =
     let left : length into - place ≡ suc (length into - (place + 1)) = omega arith in
     sym so_far ∙ ap (λ n. with_front (take place into) (values_at coding n value lean bytes)) left
-    ∙ ap (with_front (take place into)) (no_value coding (length into - (place + 1)) value lean bytes is)
+    ∙ ap (with_front (take place into))
+    (no_value coding (length into - (place + 1)) value lean bytes is)
 
-pub values_done : (coding : Coding) (place : ℕ) (value lean : ℤ) (into : List ℤ) (bytes : List ℕ) (total : Result (List ℤ × List ℕ) ℕ)
+pub values_done :
+    (coding : Coding) (place : ℕ) (value lean : ℤ) (into : List ℤ) (bytes : List ℕ)
+    (total : Result (List ℤ × List ℕ) ℕ)
     → length into ≤ place
-    → with_front (take place into) (values_at coding (length into - place) value lean bytes) ≡ total → total ≡ Ok (into, bytes)
+    → with_front (take place into) (values_at coding (length into - place) value lean bytes) ≡ total
+    → total ≡ Ok (into, bytes)
 values_done coding place value lean into bytes total end so_far =
     let left : length into - place ≡ 0 = omega arith in
     sym so_far ∙ ap (λ n. with_front (take place into) (values_at coding n value lean bytes)) left
@@ -158,7 +202,8 @@ sum_fits value lean v l = omega (arith, ints)
 -- ---- the value after this one
 
 pub next_is : (value lean next : ℤ) (n : ℕ) (bytes rest : List ℕ) → number_at bytes ≡ Some (n, rest)
-    → bounded (value +ℤ lean +ℤ unzigzag n) ≡ Some next → next_at value lean bytes ≡ Some (next, rest)
+    → bounded (value +ℤ lean +ℤ unzigzag n) ≡ Some next
+    → next_at value lean bytes ≡ Some (next, rest)
 unfolding next_at
 next_is value lean next n bytes rest number is = rw (number, is) refl
 
@@ -169,7 +214,8 @@ pub no_integer : (first : ℤ) (count : ℕ) (bytes : List ℕ) → number_at by
 unfolding column_at
 no_integer first count bytes none = rw none (ap Err (omega arith))
 
-pub no_steps : (first step : ℤ) (count n : ℕ) (bytes rest : List ℕ) → number_at bytes ≡ Some (n, rest) → step ≡ unzigzag n
+pub no_steps : (first step : ℤ) (count n : ℕ) (bytes rest : List ℕ)
+    → number_at bytes ≡ Some (n, rest) → step ≡ unzigzag n
     → option_map (λ others. first ∷ others) (steps_from count first step) ≡ None
     → all_read (length bytes) (onto first (column_at DeltaConst first count bytes)) ≡ Err 0
 unfolding column_at
@@ -181,7 +227,8 @@ no_steps first step count n bytes rest number is none =
     go None h = ap Err (omega arith)
     go (Some others) h = absurd (cc)
 
-pub steps : (first step : ℤ) (count n : ℕ) (bytes rest : List ℕ) (into : List ℤ) → number_at bytes ≡ Some (n, rest) → step ≡ unzigzag n
+pub steps : (first step : ℤ) (count n : ℕ) (bytes rest : List ℕ) (into : List ℤ)
+    → number_at bytes ≡ Some (n, rest) → step ≡ unzigzag n
     → option_map (λ others. first ∷ others) (steps_from count first step) ≡ Some into
     → onto first (column_at DeltaConst first count bytes) ≡ Ok (into, rest)
 unfolding column_at
@@ -197,7 +244,8 @@ steps first step count n bytes rest into number is done =
 
 -- ---- a whole column
 
-pub const_column : (first put : ℤ) (len : ℕ) (into : List ℤ) (bytes : List ℕ) → 1 ≤ len → put ≡ first → into ≡ replicate len put
+pub const_column : (first put : ℤ) (len : ℕ) (into : List ℤ) (bytes : List ℕ) → 1 ≤ len
+    → put ≡ first → into ≡ replicate len put
     → onto first (column_at Const first (len - 1) bytes) ≡ Ok (into, bytes)
 unfolding column_at
 const_column first put zero into bytes some same all = absurd (omega arith)
@@ -211,17 +259,21 @@ pub differences_column : (coding : Coding) (first : ℤ) (count : ℕ) (bytes : 
 unfolding column_at
 differences_column coding first count bytes is = elim is [ inl h ↦ rw h refl | inr h ↦ rw h refl ]
 
-pub decoded-lone : (coding : Coding) (first : ℤ) (count : ℕ) (bytes : List ℕ) → (count == 1 && not (is_const coding)) ≡ true
+pub decoded-lone : (coding : Coding) (first : ℤ) (count : ℕ) (bytes : List ℕ)
+    → (count == 1 && not (is_const coding)) ≡ true
     → decoded coding first count bytes ≡ Err 0
 unfolding decoded
 decoded-lone coding first count bytes lone = rw lone refl
 
-pub decoded-column : (coding : Coding) (first : ℤ) (count : ℕ) (bytes : List ℕ) → (count == 1 && not (is_const coding)) ≡ false
-    → decoded coding first count bytes ≡ all_read (length bytes) (onto first (column_at coding first (count - 1) bytes))
+pub decoded-column : (coding : Coding) (first : ℤ) (count : ℕ) (bytes : List ℕ)
+    → (count == 1 && not (is_const coding)) ≡ false
+    → decoded coding first count bytes
+    ≡ all_read (length bytes) (onto first (column_at coding first (count - 1) bytes))
 unfolding decoded
 decoded-column coding first count bytes other = rw other refl
 
-pub all_read-all : (len : ℕ) (values : List ℤ) (rest : List ℕ) → length rest ≡ 0 → all_read len (Ok (values, rest)) ≡ Ok values
+pub all_read-all : (len : ℕ) (values : List ℤ) (rest : List ℕ) → length rest ≡ 0
+    → all_read len (Ok (values, rest)) ≡ Ok values
 all_read-all len values rest none = rw (eq-eqb (length rest) 0 none) refl
 
 pub all_read-left : (len : ℕ) (values : List ℤ) (rest : List ℕ) → 0 < length rest
@@ -233,6 +285,7 @@ pub on_ok : {T E : Type 0} (r : Result T E) (P Q : Type 0) → (P → Q) → OnO
 on_ok (Ok x) P Q so h = so h
 on_ok (Err e) P Q so h = tt
 
-pub if_err : {T E : Type 0} (r : Result T E) (P Q : E → Type 0) → ((e : E) → P e → Q e) → IfErr r P → IfErr r Q
+pub if_err : {T E : Type 0} (r : Result T E) (P Q : E → Type 0) → ((e : E) → P e → Q e) → IfErr r P
+    → IfErr r Q
 if_err (Ok x) P Q so h = tt
 if_err (Err e) P Q so h = so e h

@@ -25,17 +25,21 @@ pub record IsWritten (at end number left : ℕ) (into old : List ℕ) : Type 0 w
   pub front : take end into ++ groups (10 - (end - at)) left ≡ take at old ++ groups 10 number
   pub back : drop end into ≡ drop end old
 
-next_back : (end byte : ℕ) (into old : List ℕ) → drop end into ≡ drop end old → drop (end + 1) (set into end byte) ≡ drop (end + 1) old
+next_back : (end byte : ℕ) (into old : List ℕ) → drop end into ≡ drop end old
+    → drop (end + 1) (set into end byte) ≡ drop (end + 1) old
 next_back end byte into old back =
-    drop-set-lt (end + 1) into end byte (omega arith) ∙ sym (drop-drop 1 end into) ∙ ap (drop 1) back ∙ drop-drop 1 end old
+    drop-set-lt (end + 1) into end byte (omega arith) ∙ sym (drop-drop 1 end into)
+    ∙ ap (drop 1) back ∙ drop-drop 1 end old
 
-pub one_byte : (at end number left : ℕ) (into old : List ℕ) → end < length into → 128 ≤ left → IsWritten at end number left into old
+pub one_byte : (at end number left : ℕ) (into old : List ℕ) → end < length into → 128 ≤ left
+    → IsWritten at end number left into old
     → IsWritten at (end + 1) number (left / 128) (set into end (left % 128 + 128)) old
 one_byte at end number left into old within high so_far =
     let two = two_groups (10 - (end - at)) left high so_far.small in
     let few : end ≤ at + 8 = omega (arith, so_far.begins, so_far.few) in
     let count : 10 - (end - at) ≡ suc (10 - (end + 1 - at)) = omega (arith, so_far.begins) in
-    let below : left < 128 ^ (10 - (end + 1 - at)) * 128 = omega (arith, so_far.small, ap (λ n. 128 ^ n) count, pow-suc 128 (10 - (end + 1 - at))) in
+    let below : left < 128 ^ (10 - (end + 1 - at)) * 128 =
+    omega (arith, so_far.small, ap (λ n. 128 ^ n) count, pow-suc 128 (10 - (end + 1 - at))) in
     let byte = left % 128 + 128 in
     let rest = groups (10 - (end + 1 - at)) (left / 128) in
     record {
@@ -43,13 +47,15 @@ one_byte at end number left into old within high so_far =
       few = omega arith;
       small = div_below left 128 (128 ^ (10 - (end + 1 - at))) (omega arith) below;
       front =
-          ap (λ bs. bs ++ rest) (take_more_set into end byte within) ∙ append_assoc (take end into) (byte ∷ []) rest
+          ap (λ bs. bs ++ rest) (take_more_set into end byte within)
+          ∙ append_assoc (take end into) (byte ∷ []) rest
           ∙ ap (λ bs. take end into ++ bs) (sym (groups-more (10 - (end + 1 - at)) left high))
           ∙ ap (λ n. take end into ++ groups n left) (sym count) ∙ so_far.front;
       back = next_back end byte into old so_far.back;
     }
 
-pub last_byte : (at end number left : ℕ) (into old : List ℕ) → end < length into → left < 128 → IsWritten at end number left into old
+pub last_byte : (at end number left : ℕ) (into old : List ℕ) → end < length into → left < 128
+    → IsWritten at end number left into old
     → take (end + 1) (set into end left) ≡ take at old ++ groups 10 number
 last_byte at end number left into old within low so_far =
     let count : 10 - (end - at) ≡ suc (9 - (end - at)) = omega (arith, so_far.begins, so_far.few) in
@@ -65,12 +71,15 @@ pub record IsCounted (len left number : ℕ) : Type 0 where
   pub small : left < 128 ^ (11 - len)
   pub total : len + length (groups (11 - len) left) ≡ length (groups 10 number) + 1
 
-pub one_counted : (len left number : ℕ) → 128 ≤ left → IsCounted len left number → IsCounted (len + 1) (left / 128) number
+pub one_counted : (len left number : ℕ) → 128 ≤ left → IsCounted len left number
+    → IsCounted (len + 1) (left / 128) number
 one_counted len left number high so_far =
     let two = two_groups (11 - len) left high so_far.small in
     let count : 11 - len ≡ suc (11 - (len + 1)) = omega arith in
-    let below : left < 128 ^ (11 - (len + 1)) * 128 = omega (arith, so_far.small, ap (λ n. 128 ^ n) count, pow-suc 128 (11 - (len + 1))) in
-    let one : length (groups (11 - len) left) ≡ suc (length (groups (11 - (len + 1)) (left / 128))) =
+    let below : left < 128 ^ (11 - (len + 1)) * 128 =
+    omega (arith, so_far.small, ap (λ n. 128 ^ n) count, pow-suc 128 (11 - (len + 1))) in
+    let one : length (groups (11 - len) left)
+    ≡ suc (length (groups (11 - (len + 1)) (left / 128))) =
     ap (λ n. length (groups n left)) count ∙ ap length (groups-more (11 - (len + 1)) left high) in
     record {
       begins = omega arith;
@@ -79,61 +88,83 @@ one_counted len left number high so_far =
       total = omega (arith, so_far.total);
     }
 
-pub all_counted : (len left number : ℕ) → left < 128 → IsCounted len left number → len ≡ length (groups 10 number)
+pub all_counted : (len left number : ℕ) → left < 128 → IsCounted len left number
+    → len ≡ length (groups 10 number)
 all_counted len left number low so_far =
     let count : 11 - len ≡ suc (10 - len) = omega (arith, so_far.few) in
-    let one : length (groups (11 - len) left) ≡ 1 = ap (λ n. length (groups n left)) count ∙ ap length (groups-last (10 - len) left low) in
+    let one : length (groups (11 - len) left) ≡ 1 = ap (λ n. length (groups n left)) count
+    ∙ ap length (groups-last (10 - len) left low) in
     omega (arith, so_far.total)
 
 -- ---- one integer after the other
 
-pub written_more : (coding : Coding) (value lean next put gap : ℤ) (place : ℕ) (values : List ℤ) (front whole total : List ℕ)
-    → place < length values → next ≡ get_or values place (pos 0) → put ≡ next → gap ≡ lean_after coding (next -ℤ value)
+pub written_more :
+    (coding : Coding) (value lean next put gap : ℤ) (place : ℕ) (values : List ℤ)
+    (front whole total : List ℕ)
+    → place < length values → next ≡ get_or values place (pos 0) → put ≡ next
+    → gap ≡ lean_after coding (next -ℤ value)
     → whole ≡ front ++ integer (next -ℤ value -ℤ lean)
     → front ++ spelled_from coding value lean (drop place values) ≡ total
     → whole ++ spelled_from coding put gap (drop (place + 1) values) ≡ total
-written_more coding value lean next put gap place values front whole total within is same after text so_far =
-    let rest = spelled_from coding next (lean_after coding (next -ℤ value)) (drop (place + 1) values) in
+written_more coding value lean next put gap place values front whole total within is same after text
+    so_far =
+    let rest =
+    spelled_from coding next (lean_after coding (next -ℤ value)) (drop (place + 1) values) in
     let split : drop place values ≡ next ∷ drop (place + 1) values =
-    drop-cons values place (pos 0) within ∙ ap₂ (λ n k. n ∷ drop k values) (sym is) (sym (add-one place)) in
+    drop-cons values place (pos 0) within
+    ∙ ap₂ (λ n k. n ∷ drop k values) (sym is) (sym (add-one place)) in
     ap₂ (λ p g. whole ++ spelled_from coding p g (drop (place + 1) values)) same after
     ∙ ap (λ bs. bs ++ rest) text ∙ append_assoc front (integer (next -ℤ value -ℤ lean)) rest
     ∙ ap (λ vs. front ++ spelled_from coding value lean vs) (sym split) ∙ so_far
 
-pub gap_fits : (next value lean : ℤ) → unsigned_abs next < 10 ^ 18 → unsigned_abs value < 10 ^ 18 → unsigned_abs lean < 2 * 10 ^ 18
+pub gap_fits : (next value lean : ℤ) → unsigned_abs next < 10 ^ 18 → unsigned_abs value < 10 ^ 18
+    → unsigned_abs lean < 2 * 10 ^ 18
     → to_z w64 (of_z w64 (next -ℤ value -ℤ lean)) ≡ next -ℤ value -ℤ lean
 gap_fits next value lean n v l = omega (arith, ints)
 
 -- what is the same from a place on is the same further on
-pub further : (end more : ℕ) (into old : List ℕ) → end ≤ more → drop end into ≡ drop end old → drop more into ≡ drop more old
+pub further : (end more : ℕ) (into old : List ℕ) → end ≤ more → drop end into ≡ drop end old
+    → drop more into ≡ drop more old
 further end more into old above same =
     let sum : end + (more - end) ≡ more = omega arith in
-    ap (λ n. drop n into) (sym sum) ∙ sym (drop-drop (more - end) end into) ∙ ap (drop (more - end)) same
+    ap (λ n. drop n into) (sym sum) ∙ sym (drop-drop (more - end) end into)
+    ∙ ap (drop (more - end)) same
     ∙ drop-drop (more - end) end old ∙ ap (λ n. drop n old) sum
 
 -- the end of the values is the end of their bytes
-pub written_all : (coding : Coding) (value lean : ℤ) (place : ℕ) (values : List ℤ) (front total : List ℕ) → length values ≤ place
+pub written_all :
+    (coding : Coding) (value lean : ℤ) (place : ℕ) (values : List ℤ) (front total : List ℕ)
+    → length values ≤ place
     → front ++ spelled_from coding value lean (drop place values) ≡ total → front ≡ total
 written_all coding value lean place values front total end so_far =
-    sym (append-nil front) ∙ ap (λ vs. front ++ spelled_from coding value lean vs) (sym (drop_all place values end)) ∙ so_far
+    sym (append-nil front)
+    ∙ ap (λ vs. front ++ spelled_from coding value lean vs) (sym (drop_all place values end))
+    ∙ so_far
 
 -- ---- how many bytes the integers take
 
-pub counted_more : (coding : Coding) (value lean next put gap : ℤ) (place : ℕ) (values : List ℤ) (len more total : ℕ)
-    → place < length values → next ≡ get_or values place (pos 0) → put ≡ next → gap ≡ lean_after coding (next -ℤ value)
+pub counted_more :
+    (coding : Coding) (value lean next put gap : ℤ) (place : ℕ) (values : List ℤ)
+    (len more total : ℕ)
+    → place < length values → next ≡ get_or values place (pos 0) → put ≡ next
+    → gap ≡ lean_after coding (next -ℤ value)
     → more ≡ length (integer (next -ℤ value -ℤ lean))
     → len + length (spelled_from coding value lean (drop place values)) ≡ total
     → len + more + length (spelled_from coding put gap (drop (place + 1) values)) ≡ total
-counted_more coding value lean next put gap place values len more total within is same after text so_far =
-    let rest = spelled_from coding next (lean_after coding (next -ℤ value)) (drop (place + 1) values) in
+counted_more coding value lean next put gap place values len more total within is same after text
+    so_far =
+    let rest =
+    spelled_from coding next (lean_after coding (next -ℤ value)) (drop (place + 1) values) in
     let split : drop place values ≡ next ∷ drop (place + 1) values =
-    drop-cons values place (pos 0) within ∙ ap₂ (λ n k. n ∷ drop k values) (sym is) (sym (add-one place)) in
+    drop-cons values place (pos 0) within
+    ∙ ap₂ (λ n k. n ∷ drop k values) (sym is) (sym (add-one place)) in
     let whole : len + length (integer (next -ℤ value -ℤ lean) ++ rest) ≡ total =
     ap (λ vs. len + length (spelled_from coding value lean vs)) (sym split) ∙ so_far in
     ap₂ (λ p g. len + more + length (spelled_from coding p g (drop (place + 1) values))) same after
     ∙ omega (arith, length-append (integer (next -ℤ value -ℤ lean)) rest)
 
-pub counted_all : (coding : Coding) (value lean : ℤ) (place : ℕ) (values : List ℤ) (len total : ℕ) → length values ≤ place
+pub counted_all : (coding : Coding) (value lean : ℤ) (place : ℕ) (values : List ℤ) (len total : ℕ)
+    → length values ≤ place
     → len + length (spelled_from coding value lean (drop place values)) ≡ total → len ≡ total
 counted_all coding value lean place values len total end so_far =
     let none : length (spelled_from coding value lean (drop place values)) ≡ 0 =

@@ -58,7 +58,8 @@ Suits NearestDelta2 values = 2 ≤ length values
 Suits NearestDelta values = 2 ≤ length values
 
 -- The grammar: these bytes are the column of these values, of which the first one stands elsewhere.
-pub record IsColumn (coding : Coding) (first : ℤ) (count : ℕ) (bytes : List ℕ) (values : List ℤ) : Type 0 where
+pub record IsColumn (coding : Coding) (first : ℤ) (count : ℕ) (bytes : List ℕ) (values : List ℤ) :
+    Type 0 where
   pub begins : slice_get values 0 ≡ Some first
   pub len : length values ≡ count
   pub bounds : All IsInBounds values
@@ -68,7 +69,8 @@ pub record IsColumn (coding : Coding) (first : ℤ) (count : ℕ) (bytes : List 
 -- the values that some first integers of a column give: all are given at once where they are equal
 -- or equally far apart, else one by each integer
 abbrev pub SuitsSoFar : Coding → ℕ → List ℤ → Type 0
-SuitsSoFar DeltaConst count values = (length values ≡ 1) ⊎ ((length values ≡ count) × Suits DeltaConst values)
+SuitsSoFar DeltaConst count values = (length values ≡ 1)
+    ⊎ ((length values ≡ count) × Suits DeltaConst values)
 SuitsSoFar Const count values = (length values ≡ count) × Suits Const values
 SuitsSoFar NearestDelta2 count values = length values ≤ count
 SuitsSoFar NearestDelta count values = length values ≤ count
@@ -82,7 +84,8 @@ pub record IsBegun (coding : Coding) (first : ℤ) (count : ℕ) (values : List 
 -- The bytes are no column, and break at this place: after the integers of the most values that they
 -- begin with. So it is the first byte of an integer that is spelled wrongly, cut off or gives a
 -- value out of bounds, or of what stands after the last one.
-pub record IsBroken (coding : Coding) (first : ℤ) (count : ℕ) (bytes : List ℕ) (at : ℕ) : Type 0 where
+pub record IsBroken (coding : Coding) (first : ℤ) (count : ℕ) (bytes : List ℕ) (at : ℕ) :
+    Type 0 where
   pub read : List ℤ
   pub rest : List ℕ
   pub begun : IsBegun coding first count read
@@ -97,5 +100,6 @@ abbrev pub chosen : List ℤ → Coding
 chosen values =
     if are_equal values then Const
     else (if are_equal (differences values) then DeltaConst
-    else (if nat_le (length (spelling NearestDelta2 values)) (length (spelling NearestDelta values)) then NearestDelta2
+    else (if nat_le (length (spelling NearestDelta2 values)) (length (spelling NearestDelta values))
+    then NearestDelta2
     else NearestDelta))

@@ -34,7 +34,9 @@ fn shorter(values: &[i64]) -> Coding
     requires some { 1 ≤ length values.now }
     requires few { length values.now ≤ MAX_BLOCK_SAMPLES }
     requires bounds { All IsInBounds values.now }
-    ensures { result ≡ (if nat_le (length (spelling NearestDelta2 values.now)) (length (spelling NearestDelta values.now))
+    ensures { result
+        ≡ (if nat_le (length (spelling NearestDelta2 values.now))
+        (length (spelling NearestDelta values.now))
         then NearestDelta2 else NearestDelta) }
 {
     let second = spelling_len(Coding::NearestDelta2, values);

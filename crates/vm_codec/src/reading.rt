@@ -39,7 +39,8 @@ fn decode_all(coding: Coding, first: i64, bytes: &[u8], into: &mut [i64]) -> Res
     requires some { 1 ≤ length into.old }
     requires bound { IsInBounds first }
     ensures read { OnOk result (decoded coding first (length into.old) bytes.now ≡ Ok into.new) }
-    ensures broken { IfErr result (λ e. decoded coding first (length into.old) bytes.now ≡ Err e.at) }
+    ensures broken { IfErr result
+        (λ e. decoded coding first (length into.old) bytes.now ≡ Err e.at) }
 {
     if is_lone(coding, into.len()) {
         return Err(Broken { at: 0 });
@@ -118,7 +119,8 @@ fn read_column<'a>(
 ) -> Result<&'a [u8], Broken>
     requires some { 1 ≤ length into.old }
     requires bound { IsInBounds first }
-    ensures read { IfOk result (λ rest. onto first (column_at coding first (length into.old - 1) bytes.now)
+    ensures read { IfOk result
+        (λ rest. onto first (column_at coding first (length into.old - 1) bytes.now)
         ≡ Ok (into.new, rest.now)) }
     ensures shorter { IfOk result (λ rest. length rest.now ≤ length bytes.now) }
     ensures broken { IfErr result (λ e. all_read (length bytes.now)
@@ -145,7 +147,8 @@ fn read_differences<'a>(
 ) -> Result<&'a [u8], Broken>
     requires some { 1 ≤ length into.old }
     requires bound { IsInBounds first }
-    ensures read { IfOk result (λ rest. onto first (values_at coding (length into.old - 1) first (pos 0) bytes.now)
+    ensures read { IfOk result
+        (λ rest. onto first (values_at coding (length into.old - 1) first (pos 0) bytes.now)
         ≡ Ok (into.new, rest.now)) }
     ensures shorter { IfOk result (λ rest. length rest.now ≤ length bytes.now) }
     ensures broken { IfErr result (λ e. all_read (length bytes.now)
@@ -171,7 +174,8 @@ fn read_differences<'a>(
 fn read_steps<'a>(first: i64, bytes: &'a [u8], into: &mut [i64]) -> Result<&'a [u8], Broken>
     requires some { 1 ≤ length into.old }
     requires bound { IsInBounds first }
-    ensures read { IfOk result (λ rest. onto first (column_at DeltaConst first (length into.old - 1) bytes.now)
+    ensures read { IfOk result
+        (λ rest. onto first (column_at DeltaConst first (length into.old - 1) bytes.now)
         ≡ Ok (into.new, rest.now)) }
     ensures shorter { IfOk result (λ rest. length rest.now ≤ length bytes.now) }
     ensures broken { IfErr result (λ e. all_read (length bytes.now)

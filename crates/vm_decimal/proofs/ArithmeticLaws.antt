@@ -18,7 +18,8 @@ use Rattle.vm_decimal.proofs.Products.{signed_mul}
 
 -- what an answer that holds a number says
 
-scaled_found : (b : Bool) (found : Option ℤ) (r : ℤ) → (if b then found else None) ≡ Some r → found ≡ Some r
+scaled_found : (b : Bool) (found : Option ℤ) (r : ℤ) → (if b then found else None) ≡ Some r
+    → found ≡ Some r
 scaled_found true found r is = is
 scaled_found false found r is = absurd (cc is)
 
@@ -27,7 +28,8 @@ mapped (Some z) r is = let same : z ≡ r = cc is in ap Some same
 mapped None r is = absurd (cc is)
 
 divided : (b : Bool) (found : Option ℤ) (r : ℤ)
-    → (if b then Some None else option_map Some found) ≡ Some (Some r) → (b ≡ false) × (found ≡ Some r)
+    → (if b then Some None else option_map Some found) ≡ Some (Some r) → (b ≡ false)
+    × (found ≡ Some r)
 divided true found r is = absurd (cc is)
 divided false found r is = (refl, mapped found r is)
 
@@ -64,7 +66,9 @@ pub remainder-IsRest : (a b r : ℤ) → remainder a b ≡ Some (Some r) → IsR
 unfolding remainder
 remainder-IsRest a b r is =
     let parts = divided (int_eq b (pos 0)) (if_scaled 0 a b (in_range (int_rem a b))) r is in
-    let found = scaled_found (nat_lt (scaled_dividend 0 a b) (10 ^ 38)) (in_range (int_rem a b)) r parts.1 in
+    let found =
+    scaled_found (nat_lt (scaled_dividend 0 a b) (10 ^ 38)) (in_range (int_rem a b)) r
+    parts.1 in
     let same : r ≡ int_rem a b = ranged (is_dec (int_rem a b)) (int_rem a b) r found in
     subst (IsRest a b) (sym same) (record {
       quotient = int_div a b;
@@ -76,7 +80,8 @@ remainder-IsRest a b r is =
 
 -- a quotient that is as near as it can be
 
-apart : (s : Bool) (n k : ℕ) → unsigned_abs (signed s n -ℤ signed s k) + unsigned_abs (signed s n -ℤ signed s k)
+apart : (s : Bool) (n k : ℕ)
+    → unsigned_abs (signed s n -ℤ signed s k) + unsigned_abs (signed s n -ℤ signed s k)
     ≡ 2 * ((n - k) + (k - n))
 apart true n k = omega (arith, ints)
 apart false n k = omega (arith, ints)
@@ -108,15 +113,20 @@ quotient9-IsQuotient9 a b z is =
     let raised = a *ℤ pos (10 ^ 9) in
     let q = nearest_quotient raised b in
     let parts = divided (int_eq b (pos 0)) (if_scaled 9 a b (dec_of q (negsuc 8))) z is in
-    let found = scaled_found (nat_lt (scaled_dividend 9 a b) (10 ^ 38)) (dec_of q (negsuc 8)) z parts.1 in
+    let found =
+    scaled_found (nat_lt (scaled_dividend 9 a b) (10 ^ 38)) (dec_of q (negsuc 8)) z parts.1 in
     let some : 0 < unsigned_abs b = size_of b parts.0 in
-    let near = near_quotient (is_negative raised) (unsigned_abs raised) (is_negative b) (unsigned_abs b) some in
+    let near =
+    near_quotient (is_negative raised) (unsigned_abs raised) (is_negative b) (unsigned_abs b)
+    some in
     let near_too = rw (signed-parts raised, signed-parts b) at near in
     record {
       billionths = q;
       is = found;
       near = near_too.0;
-      even = λ tie. even_size (differ (is_negative raised) (is_negative b)) (nearest (unsigned_abs raised) (unsigned_abs b))
+      even = λ tie.
+          even_size (differ (is_negative raised) (is_negative b))
+          (nearest (unsigned_abs raised) (unsigned_abs b))
           (near_too.1 tie);
     }
   where

@@ -25,9 +25,11 @@ Is s z = number (is_negative s.mantissa) (unsigned_abs s.mantissa) s.shift ≡ z
 
 -- the form of a number by its fields
 pub form_of-inside : (s : Inside) (z : ℤ) → InForm s → Is s z
-    → form_of z ≡ record { negative = is_negative s.mantissa; size = unsigned_abs s.mantissa; shift = s.shift }
+    → form_of z
+    ≡ record { negative = is_negative s.mantissa; size = unsigned_abs s.mantissa; shift = s.shift }
 form_of-inside s z form is =
-    ap form_of (sym is) ∙ form_of-dec (is_negative s.mantissa) (unsigned_abs s.mantissa) s.shift form
+    ap form_of (sym is)
+    ∙ form_of-dec (is_negative s.mantissa) (unsigned_abs s.mantissa) s.shift form
 
 -- the mantissa and the exponent
 pub mantissa_is : (s : Inside) (z : ℤ) → InForm s → Is s z → s.mantissa ≡ mantissa z
@@ -37,17 +39,22 @@ pub exponent_is : (s : Inside) (z : ℤ) → InForm s → Is s z → pos s.shift
 exponent_is s z form is = rw (form_of-inside s z form is) refl
 
 -- the fields of parts in normal form
-pub form_by : (minus : Bool) (size shift : ℕ) (m : ℤ) (place : ℕ) → m ≡ signed minus size → place ≡ shift
+pub form_by : (minus : Bool) (size shift : ℕ) (m : ℤ) (place : ℕ) → m ≡ signed minus size
+    → place ≡ shift
     → IsDecForm minus size shift → IsDecForm (is_negative m) (unsigned_abs m) place
 form_by minus size shift m place m_is place_is form =
-    let sign : is_negative m ≡ minus = ap is_negative m_is ∙ is_negative-form minus size form.plus in
+    let sign : is_negative m ≡ minus = ap is_negative m_is
+    ∙ is_negative-form minus size form.plus in
     let abs : unsigned_abs m ≡ size = ap unsigned_abs m_is ∙ unsigned_abs-signed minus size in
     rw (sign, abs, place_is) form
 
-pub number_by : (minus : Bool) (size shift : ℕ) (m : ℤ) (place : ℕ) → m ≡ signed minus size → place ≡ shift
-    → IsDecForm minus size shift → number (is_negative m) (unsigned_abs m) place ≡ number minus size shift
+pub number_by : (minus : Bool) (size shift : ℕ) (m : ℤ) (place : ℕ) → m ≡ signed minus size
+    → place ≡ shift
+    → IsDecForm minus size shift
+    → number (is_negative m) (unsigned_abs m) place ≡ number minus size shift
 number_by minus size shift m place m_is place_is form =
-    let sign : is_negative m ≡ minus = ap is_negative m_is ∙ is_negative-form minus size form.plus in
+    let sign : is_negative m ≡ minus = ap is_negative m_is
+    ∙ is_negative-form minus size form.plus in
     let abs : unsigned_abs m ≡ size = ap unsigned_abs m_is ∙ unsigned_abs-signed minus size in
     rw (sign, abs, place_is) refl
 
@@ -59,14 +66,17 @@ dec_of-form minus size shift e form is =
     ⊎_elim
     (λ (none : size ≡ 0).
     let nought : number minus size shift ≡ pos 0 =
-    ap (λ n. signed minus (n * 10 ^ shift)) none ∙ ap (signed minus) (omega arith) ∙ signed-zero minus in
-    ap (λ n. dec_of (signed minus n) e) none ∙ ap (λ z. dec_of z e) (signed-zero minus) ∙ dec_of-zero e
+    ap (λ n. signed minus (n * 10 ^ shift)) none ∙ ap (signed minus) (omega arith)
+    ∙ signed-zero minus in
+    ap (λ n. dec_of (signed minus n) e) none ∙ ap (λ z. dec_of z e) (signed-zero minus)
+    ∙ dec_of-zero e
     ∙ ap Some (sym nought))
     (λ (some : size ≡ 0 → ⊥).
     let last : size % 10 ≡ 0 → ⊥ = λ end. some (form.short end) in
     let whole : size * 10 ^ 0 ≡ size = omega arith in
     let at : pos shift ≡ e +ℤ pos (1000 + 0) = omega (arith, ints) in
-    ap (λ n. dec_of (signed minus n) e) (sym whole) ∙ dec_of-placed minus size 0 last e (pos shift) at
+    ap (λ n. dec_of (signed minus n) e) (sym whole)
+    ∙ dec_of-placed minus size 0 last e (pos shift) at
     ∙ placed_within minus size shift form.few form.high)
     (cases_eq size 0)
 

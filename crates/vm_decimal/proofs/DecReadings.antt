@@ -20,7 +20,8 @@ pub dec_says : (text : List ℕ) → DecSays text (dec_reading text)
 unfolding dec_reading
 dec_says text = go (number_reading text) refl
   where
-    number : (spelled : Spelled) → IsNumber text spelled → (found : Option ℤ) → dec_value spelled ≡ found
+    number : (spelled : Spelled) → IsNumber text spelled → (found : Option ℤ)
+        → dec_value spelled ≡ found
         → DecSays text (or_too_wide found)
     number spelled is (Some z) found = (spelled, is, found)
     number spelled is None found = (spelled, is, found)
@@ -31,7 +32,8 @@ dec_says text = go (number_reading text) refl
     go (Err at) reads = number_wrong text at reads
 
 -- a text has one reading
-pub one_dec_reading : (text : List ℕ) (one other : Result ℤ NumFault) → DecSays text one → DecSays text other
+pub one_dec_reading : (text : List ℕ) (one other : Result ℤ NumFault) → DecSays text one
+    → DecSays text other
     → one ≡ other
 one_dec_reading text (Ok z) (Ok y) is is_other =
     let same : is.0 ≡ is_other.0 = one_spelling text is.0 is_other.0 is.1 is_other.1 in

@@ -43,7 +43,8 @@ is_dec-zero = rw (form_of-zero (pos 0) refl) refl
 -- numbers that are placed
 
 both_limits : (few : Bool) (shift : ℕ)
-    → (few && int_le (pos 0) (pos shift) && int_le (pos shift) (pos 2000)) ≡ (few && nat_le shift 2000)
+    → (few && int_le (pos 0) (pos shift) && int_le (pos shift) (pos 2000))
+    ≡ (few && nat_le shift 2000)
 both_limits few shift = grind (arith, nat_tests)
 
 pub in_range-number : (minus : Bool) (size shift : ℕ) → (size % 10 ≡ 0 → ⊥)
@@ -57,7 +58,8 @@ none_low false b found = refl
 
 pub placed_low : (minus : Bool) (size down : ℕ) → placed minus size (negsuc down) ≡ None
 placed_low minus size down =
-    none_low (nat_lt size (10 ^ 38)) (int_le (negsuc down) (pos 2000)) (Some (number minus size (suc down)))
+    none_low (nat_lt size (10 ^ 38)) (int_le (negsuc down) (pos 2000))
+    (Some (number minus size (suc down)))
 
 -- zeros of the size and zeros of the shift
 pub noughts_add : (size noughts shift : ℕ)
@@ -73,7 +75,8 @@ rest_left size noughts more last none =
     let whole = size * 10 ^ noughts in
     let q = whole / by in
     let back : q * by + whole % by ≡ whole = div-add-mod' whole by in
-    let parts : q * by ≡ q * 10 ^ suc more * 10 ^ noughts = sym (noughts_add q (suc more) noughts) in
+    let parts : q * by ≡ q * 10 ^ suc more * 10 ^ noughts =
+    sym (noughts_add q (suc more) noughts) in
     let same : q * 10 ^ suc more * 10 ^ noughts ≡ size * 10 ^ noughts = omega arith in
     let cut : q * 10 ^ suc more ≡ size =
     sym (mul-div_cancel (q * 10 ^ suc more) (ten_pos noughts)) ∙ ap (λ n. n / 10 ^ noughts) same
@@ -122,7 +125,8 @@ module _ (minus : Bool) (size noughts : ℕ) (last : size % 10 ≡ 0 → ⊥) wh
       (λ (few : noughts < suc down).
       let more : ℕ = down - noughts in
       let shift_is : shift ≡ negsuc more = omega (arith, ints) in
-      short e down more (omega arith) at ∙ sym (ap (placed minus size) shift_is ∙ placed_low minus size more))
+      short e down more (omega arith) at
+      ∙ sym (ap (placed minus size) shift_is ∙ placed_low minus size more))
       (λ (many : suc down ≤ noughts).
       let left : ℕ = noughts - suc down in
       let shift_is : shift ≡ pos left = omega (arith, ints) in
@@ -146,9 +150,11 @@ zero_at e (negsuc down) at =
 pub dec_of-zero : (e : ℤ) → dec_of (pos 0) e ≡ Some (pos 0)
 dec_of-zero e = zero_at e (e +ℤ pos 1000) refl
 
-pub dec_of-none : (minus : Bool) (size : ℕ) (e : ℤ) → size ≡ 0 → Some (pos 0) ≡ dec_of (signed minus size) e
+pub dec_of-none : (minus : Bool) (size : ℕ) (e : ℤ) → size ≡ 0
+    → Some (pos 0) ≡ dec_of (signed minus size) e
 dec_of-none minus size e none =
-    sym (ap (λ n. dec_of (signed minus n) e) none ∙ ap (λ z. dec_of z e) (signed-zero minus) ∙ dec_of-zero e)
+    sym (ap (λ n. dec_of (signed minus n) e) none ∙ ap (λ z. dec_of z e) (signed-zero minus)
+    ∙ dec_of-zero e)
 
 -- the same of a mantissa by its size, for what was placed
 pub dec_of-size : (minus : Bool) (size bare noughts : ℕ) (e : ℤ) {shift : ℤ} {found : Option ℤ}
@@ -156,18 +162,22 @@ pub dec_of-size : (minus : Bool) (size bare noughts : ℕ) (e : ℤ) {shift : �
     → (bare % 10 ≡ 0 → ⊥) → shift ≡ e +ℤ pos (1000 + noughts)
     → found ≡ dec_of (signed minus size) e
 dec_of-size minus size bare noughts e {shift} found whole last is =
-    found ∙ sym (ap (λ n. dec_of (signed minus n) e) whole ∙ dec_of-placed minus bare noughts last e shift is)
+    found ∙ sym
+    (ap (λ n. dec_of (signed minus n) e) whole
+    ∙ dec_of-placed minus bare noughts last e shift is)
 
 -- within the limits a number is placed
 pub placed_within : (minus : Bool) (size shift : ℕ) → size < 10 ^ 38 → shift ≤ 2000
     → placed minus size (pos shift) ≡ Some (number minus size shift)
 placed_within minus size shift few high =
-    let all : (nat_lt size (10 ^ 38) && int_le (pos 0) (pos shift) && int_le (pos shift) (pos 2000)) ≡ true =
+    let all : (nat_lt size (10 ^ 38) && int_le (pos 0) (pos shift) && int_le (pos shift) (pos 2000))
+    ≡ true =
     grind (arith, nat_tests) in
     rw all refl
 
 -- with more than 38 digits it isn't
-pub placed_wide : (minus : Bool) (size : ℕ) (shift : ℤ) → 10 ^ 38 ≤ size → placed minus size shift ≡ None
+pub placed_wide : (minus : Bool) (size : ℕ) (shift : ℤ) → 10 ^ 38 ≤ size
+    → placed minus size shift ≡ None
 placed_wide minus size shift many =
     let wide : nat_lt size (10 ^ 38) ≡ false = grind (arith, nat_tests) in
     rw wide refl
@@ -186,10 +196,12 @@ pub in_range-up : (minus : Bool) (size shift : ℕ) {e : ℤ} {found : Option �
 in_range-up minus size shift {e} found is = found ∙ dec_of-up minus size shift e is
 
 -- nor with too great an exponent
-pub placed_high : (minus : Bool) (size shift : ℕ) → 2000 < shift → placed minus size (pos shift) ≡ None
+pub placed_high : (minus : Bool) (size shift : ℕ) → 2000 < shift
+    → placed minus size (pos shift) ≡ None
 placed_high minus size shift far =
     let high : int_le (pos shift) (pos 2000) ≡ false = grind (arith, nat_tests) in
-    rw high (none_high (nat_lt size (10 ^ 38)) (int_le (pos 0) (pos shift)) (Some (number minus size shift)))
+    rw high (none_high (nat_lt size (10 ^ 38)) (int_le (pos 0) (pos shift))
+    (Some (number minus size shift)))
   where
     none_high : (a b : Bool) (found : Option ℤ) → (if a && b && false then found else None) ≡ None
     none_high true true found = refl

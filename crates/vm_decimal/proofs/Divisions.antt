@@ -82,7 +82,8 @@ nearest_far n d far =
 
 -- signs
 
-pub signed_rem : (a : Bool) (n : ℕ) (b : Bool) (d : ℕ) → int_rem (signed a n) (signed b d) ≡ signed a (n % d)
+pub signed_rem : (a : Bool) (n : ℕ) (b : Bool) (d : ℕ)
+    → int_rem (signed a n) (signed b d) ≡ signed a (n % d)
 signed_rem false n b d = ap (λ k. pos (n % k)) (unsigned_abs-signed b d)
 signed_rem true zero b d =
     ap pos (zero-mod (unsigned_abs (signed b d))) ∙ sym (ap (λ k. neg_ℤ (pos k)) (zero-mod d))
@@ -108,8 +109,10 @@ size_some x k some = one-le-mul {a = x} some (ten_pos k)
 sign_is : (a : Bool) (x k : ℕ) → (x ≡ 0 → a ≡ false) → is_negative (number a x k) ≡ a
 sign_is a x k plus = is_negative-form a (x * 10 ^ k) (λ none. plus (size_none x k none))
 
-quotient-numbers : (a : Bool) (x k : ℕ) (b : Bool) (y j : ℕ) → (x ≡ 0 → a ≡ false) → (y ≡ 0 → b ≡ false)
-    → nearest_quotient (number a x k) (number b y j) ≡ signed (differ a b) (nearest (x * 10 ^ k) (y * 10 ^ j))
+quotient-numbers : (a : Bool) (x k : ℕ) (b : Bool) (y j : ℕ) → (x ≡ 0 → a ≡ false)
+    → (y ≡ 0 → b ≡ false)
+    → nearest_quotient (number a x k) (number b y j)
+    ≡ signed (differ a b) (nearest (x * 10 ^ k) (y * 10 ^ j))
 quotient-numbers a x k b y j plus plus_too =
     rw (
       sign_is a x k plus,
@@ -136,7 +139,8 @@ quotient_is a x i b y j q one two is =
     ∙ sym (ap (λ z. nearest_quotient z (number b y j)) raised
     ∙ quotient-numbers a x (i + 9) b y j one.plus two.plus)
 
-pub multiple_is : (a : Bool) (x i : ℕ) (b : Bool) (y j m shift : ℕ) → IsDecForm a x i → IsDecForm b y j
+pub multiple_is : (a : Bool) (x i : ℕ) (b : Bool) (y j m shift : ℕ) → IsDecForm a x i
+    → IsDecForm b y j
     → m * 10 ^ shift ≡ nearest (x * 10 ^ i) (y * 10 ^ j) * (y * 10 ^ j)
     → number a m shift ≡ nearest_quotient (number a x i) (number b y j) *ℤ number b y j
 multiple_is a x i b y j m shift one two is =
@@ -149,12 +153,14 @@ multiple_is a x i b y j m shift one two is =
 
 -- the scaled dividend
 
-pub scaled_is : (noughts : ℕ) (a : Bool) (x i : ℕ) (b : Bool) (y j : ℕ) → IsDecForm a x i → IsDecForm b y j
+pub scaled_is : (noughts : ℕ) (a : Bool) (x i : ℕ) (b : Bool) (y j : ℕ) → IsDecForm a x i
+    → IsDecForm b y j
     → scaled_dividend noughts (number a x i) (number b y j) ≡ x * 10 ^ (i + noughts - j)
 scaled_is noughts a x i b y j one two = rw (form_of-dec a x i one, form_of-dec b y j two) refl
 
 pub if_scaled-found : (noughts : ℕ) (z w : ℤ) (s : ℕ) {found wanted : Option ℤ}
-    → scaled_dividend noughts z w ≡ s → s < 10 ^ 38 → found ≡ wanted → found ≡ if_scaled noughts z w wanted
+    → scaled_dividend noughts z w ≡ s → s < 10 ^ 38 → found ≡ wanted
+    → found ≡ if_scaled noughts z w wanted
 if_scaled-found noughts z w s is few found =
     let yes : nat_lt (scaled_dividend noughts z w) (10 ^ 38) ≡ true = grind (arith, nat_tests) in
     rw yes found
@@ -177,7 +183,8 @@ some_is b y j w is some =
     let more = size_some y j some in
     sym (ap (λ z. int_eq z (pos 0)) is) ∙ int_eq-signed b (y * 10 ^ j) ∙ grind (arith, nat_tests)
 
-pub remainder-none : (z : ℤ) (b : Bool) (y j : ℕ) (w : ℤ) → number b y j ≡ w → y ≡ 0 → Some None ≡ remainder z w
+pub remainder-none : (z : ℤ) (b : Bool) (y j : ℕ) (w : ℤ) → number b y j ≡ w → y ≡ 0
+    → Some None ≡ remainder z w
 unfolding remainder
 remainder-none z b y j w is none = rw (none_is b y j w is none) refl
 
@@ -190,7 +197,8 @@ remainder-some y z b size j v w one is two some found =
     rw divides
     (ap (option_map Some) (found ∙ ap₂ (λ m n. if_scaled 0 m n (in_range (int_rem m n))) one two))
 
-pub quotient9-none : (z : ℤ) (b : Bool) (y j : ℕ) (w : ℤ) → number b y j ≡ w → y ≡ 0 → Some None ≡ quotient9 z w
+pub quotient9-none : (z : ℤ) (b : Bool) (y j : ℕ) (w : ℤ) → number b y j ≡ w → y ≡ 0
+    → Some None ≡ quotient9 z w
 unfolding quotient9
 quotient9-none z b y j w is none = rw (none_is b y j w is none) refl
 
@@ -204,7 +212,8 @@ quotient9-some y z b size j v w one is two some found =
     rw divides
     (ap (option_map Some)
     (found
-    ∙ ap₂ (λ m n. if_scaled 9 m n (dec_of (nearest_quotient (m *ℤ pos (10 ^ 9)) n) (negsuc 8))) one two))
+    ∙ ap₂ (λ m n. if_scaled 9 m n (dec_of (nearest_quotient (m *ℤ pos (10 ^ 9)) n) (negsuc 8))) one
+    two))
 
 pub multiple-some : (y z v w : ℤ) {found : Option ℤ} → y ≡ z → v ≡ w
     → found ≡ if_scaled 0 y v (in_range (nearest_quotient y v *ℤ v)) → found ≡ nearest_multiple z w
@@ -227,7 +236,8 @@ no_gap size i j less =
     let none : i - j ≡ 0 = omega arith in
     sym (ap (λ k. size * 10 ^ k) none ∙ omega arith)
 
-pub lower_dividend : (n d : Scaled) (r : Option ℕ) → n.size < 10 ^ 38 → 0 < d.size → n.shift < d.shift
+pub lower_dividend : (n d : Scaled) (r : Option ℕ) → n.size < 10 ^ 38 → 0 < d.size
+    → n.shift < d.shift
     → IfSome r (λ v. v ≡ d.size * 10 ^ (d.shift - n.shift))
     → IfNone r (2 ^ 128 ≤ d.size * 10 ^ (d.shift - n.shift))
     → IsAligned n d (record { dividend = n.size; divisor = r; shift = n.shift })
@@ -304,7 +314,8 @@ module _ (n d : Scaled) (both : Aligned) (is : IsAligned n d both) where
       mul_assoc q v (10 ^ both.shift)
       ∙ ap₂ (λ m k. m * k) (some_quotient v q some found) (sym (is.divisor_is v some))
 
-  pub none_multiple : both.divisor ≡ None → 0 * 10 ^ both.shift ≡ nearest (whole n) (whole d) * whole d
+  pub none_multiple : both.divisor ≡ None
+      → 0 * 10 ^ both.shift ≡ nearest (whole n) (whole d) * whole d
   none_multiple none =
       let nought : 0 * 10 ^ both.shift ≡ 0 * whole d = omega arith in
       nought ∙ ap (λ q. q * whole d) (none_quotient none)
@@ -312,8 +323,10 @@ module _ (n d : Scaled) (both : Aligned) (is : IsAligned n d both) where
 pub whole_is : (n : Scaled) (x i : ℕ) → n.size ≡ x → n.shift ≡ i → whole n ≡ x * 10 ^ i
 whole_is n x i size shift = ap₂ (λ s k. s * 10 ^ k) size shift
 
-module _ (noughts : ℕ) (a : Bool) (x i : ℕ) (b : Bool) (y j : ℕ) (one : IsDecForm a x i) (two : IsDecForm b y j)
-    (n d : Scaled) (n_size : n.size ≡ x) (n_shift : n.shift ≡ i + noughts) (d_shift : d.shift ≡ j + 0) where
+module _ (noughts : ℕ) (a : Bool) (x i : ℕ) (b : Bool) (y j : ℕ) (one : IsDecForm a x i)
+    (two : IsDecForm b y j)
+    (n d : Scaled) (n_size : n.size ≡ x) (n_shift : n.shift ≡ i + noughts)
+    (d_shift : d.shift ≡ j + 0) where
   gap : scaled_dividend noughts (number a x i) (number b y j) ≡ n.size * 10 ^ (n.shift - d.shift)
   gap =
       let same : i + noughts - j ≡ n.shift - d.shift = omega arith in
@@ -322,9 +335,11 @@ module _ (noughts : ℕ) (a : Bool) (x i : ℕ) (b : Bool) (y j : ℕ) (one : Is
   pub within : (both : Aligned) {found wanted : Option ℤ} → IsAligned n d both → found ≡ wanted
       → found ≡ if_scaled noughts (number a x i) (number b y j) wanted
   within both is found =
-      if_scaled-found noughts (number a x i) (number b y j) both.dividend (gap ∙ sym is.scaled) is.few found
+      if_scaled-found noughts (number a x i) (number b y j) both.dividend (gap ∙ sym is.scaled)
+      is.few found
 
   pub beyond : (wanted : Option ℤ) → 10 ^ 38 ≤ n.size * 10 ^ (n.shift - d.shift)
       → None ≡ if_scaled noughts (number a x i) (number b y j) wanted
   beyond wanted wide =
-      if_scaled-wide noughts (number a x i) (number b y j) (n.size * 10 ^ (n.shift - d.shift)) wanted gap wide
+      if_scaled-wide noughts (number a x i) (number b y j) (n.size * 10 ^ (n.shift - d.shift))
+      wanted gap wide

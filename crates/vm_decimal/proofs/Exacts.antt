@@ -60,7 +60,8 @@ wide_start n size noughts digit is full few some =
       many = omega arith;
     }
 
-pub with_room : (e : Exact) (n digit : ℕ) → IsExact e n → e.noughts ≡ 0 → e.size < 10 ^ 37 → digit < 10
+pub with_room : (e : Exact) (n digit : ℕ) → IsExact e n → e.noughts ≡ 0 → e.size < 10 ^ 37
+    → digit < 10
     → IsExact (record { size = e.size * 10 + digit; noughts = 0; wide = e.wide }) (n * 10 + digit)
 with_room e n digit is none room few = record {
   whole = λ (small : e.wide ≡ false).
@@ -75,7 +76,8 @@ pub with_nought : (e : Exact) (n : ℕ) → IsExact e n → (e.noughts ≡ 0 →
     → IsExact (record { size = e.size; noughts = e.noughts + 1; wide = e.wide }) (n * 10 + 0)
 with_nought e n is no_room = record {
   whole = λ (small : e.wide ≡ false).
-      let next : e.size * 10 ^ suc e.noughts ≡ 10 * (e.size * 10 ^ e.noughts) = tens e.size e.noughts in
+      let next : e.size * 10 ^ suc e.noughts ≡ 10 * (e.size * 10 ^ e.noughts) =
+      tens e.size e.noughts in
       let more : e.noughts + 1 ≡ suc e.noughts = omega arith in
       omega (arith, is.whole small, ap (λ k. e.size * 10 ^ k) more);
   few = is.few;
@@ -83,15 +85,18 @@ with_nought e n is no_room = record {
   beyond = λ (wide : e.wide ≡ true). wide_more n 0 (is.beyond wide) (omega arith);
 }
   where
-    full_size : (e : Exact) (n : ℕ) → IsExact e n → (e.noughts ≡ 0 → e.size < 10 ^ 37 → ⊥) → 10 ^ 37 ≤ e.size
+    full_size : (e : Exact) (n : ℕ) → IsExact e n → (e.noughts ≡ 0 → e.size < 10 ^ 37 → ⊥)
+        → 10 ^ 37 ≤ e.size
     full_size e n is no_room =
         ⊎_elim
         (λ (none : e.noughts ≡ 0).
-        ⊎_elim (λ (small : e.size < 10 ^ 37). absurd (no_room none small)) (λ many. many) (cases_lt e.size (10 ^ 37)))
+        ⊎_elim (λ (small : e.size < 10 ^ 37). absurd (no_room none small)) (λ many. many)
+        (cases_lt e.size (10 ^ 37)))
         (λ (some : e.noughts ≡ 0 → ⊥). is.full (omega arith))
         (cases_eq e.noughts 0)
 
-pub with_more : (e : Exact) (n digit : ℕ) → IsExact e n → (e.noughts ≡ 0 → e.size < 10 ^ 37 → ⊥) → digit < 10
+pub with_more : (e : Exact) (n digit : ℕ) → IsExact e n → (e.noughts ≡ 0 → e.size < 10 ^ 37 → ⊥)
+    → digit < 10
     → (digit ≡ 0 → ⊥)
     → IsExact (record { size = e.size; noughts = e.noughts; wide = true }) (n * 10 + digit)
 with_more e n digit is no_room few some = record {
@@ -105,7 +110,8 @@ with_more e n digit is no_room few some = record {
     full_size =
         ⊎_elim
         (λ (none : e.noughts ≡ 0).
-        ⊎_elim (λ (small : e.size < 10 ^ 37). absurd (no_room none small)) (λ many. many) (cases_lt e.size (10 ^ 37)))
+        ⊎_elim (λ (small : e.size < 10 ^ 37). absurd (no_room none small)) (λ many. many)
+        (cases_lt e.size (10 ^ 37)))
         (λ (none : e.noughts ≡ 0 → ⊥). is.full (omega arith))
         (cases_eq e.noughts 0)
 
@@ -184,12 +190,14 @@ dec_of-far minus size e some few far =
     let down : ℕ = unsigned_abs e - (1001 + s.noughts) in
     let shift : negsuc down ≡ e +ℤ pos (1000 + s.noughts) = omega (arith, ints) in
     ap (λ n. dec_of (signed minus n) e) s.whole
-    ∙ dec_of-placed minus s.bare s.noughts s.last e (negsuc down) shift ∙ placed_low minus s.bare down)
+    ∙ dec_of-placed minus s.bare s.noughts s.last e (negsuc down) shift
+    ∙ placed_low minus s.bare down)
     (λ (high : pos 10000 <ℤ e).
     let up : ℕ = unsigned_abs e + (1000 + s.noughts) in
     let shift : pos up ≡ e +ℤ pos (1000 + s.noughts) = omega (arith, ints) in
     ap (λ n. dec_of (signed minus n) e) s.whole
-    ∙ dec_of-placed minus s.bare s.noughts s.last e (pos up) shift ∙ placed_high minus s.bare up (omega (arith, ints)))
+    ∙ dec_of-placed minus s.bare s.noughts s.last e (pos up) shift
+    ∙ placed_high minus s.bare up (omega (arith, ints)))
     far
 
 -- an exponent that is counted exactly below 10^30 alone gives the same
@@ -200,7 +208,8 @@ dec_of-capped : (minus down : Bool) (size more places counted power : ℕ) → s
 dec_of-capped minus down size more places counted power few small near capped =
     ⊎_elim
     (λ (exact : counted < 10 ^ 30).
-    ap (λ n. dec_of (signed minus size) ((signed down n -ℤ pos places) +ℤ pos more)) (capped.exact exact))
+    ap (λ n. dec_of (signed minus size) ((signed down n -ℤ pos places) +ℤ pos more))
+    (capped.exact exact))
     (λ (far : 10 ^ 30 ≤ counted).
     ⊎_elim
     (λ (none : size ≡ 0).
@@ -209,11 +218,13 @@ dec_of-capped minus down size more places counted power few small near capped =
     (λ (other : size ≡ 0 → ⊥).
     let too : 10 ^ 30 ≤ power = capped.far far in
     dec_of-far minus size _ (omega arith) few (out_of_reach down more places counted small near far)
-    ∙ sym (dec_of-far minus size _ (omega arith) few (out_of_reach down more places power small near too)))
+    ∙ sym (dec_of-far minus size _ (omega arith) few
+    (out_of_reach down more places power small near too)))
     (cases_eq size 0))
     (cases_lt counted (10 ^ 30))
   where
-    out_of_reach : (down : Bool) (more places power : ℕ) → more ≤ 2 ^ 64 → places ≤ 2 ^ 64 → 10 ^ 30 ≤ power
+    out_of_reach : (down : Bool) (more places power : ℕ) → more ≤ 2 ^ 64 → places ≤ 2 ^ 64
+        → 10 ^ 30 ≤ power
         → (((signed down power -ℤ pos places) +ℤ pos more) <ℤ negsuc 9999)
         ⊎ (pos 10000 <ℤ ((signed down power -ℤ pos places) +ℤ pos more))
     out_of_reach true more places power small near far = inl (omega (arith, ints))
@@ -222,13 +233,16 @@ dec_of-capped minus down size more places counted power few small near capped =
 -- the number of what a reader stands for
 pub read_value : (reader : Reader) (s : State) (size more : ℕ) → Stands reader s
     → s.digits ≡ size * 10 ^ more → size < 10 ^ 38 → more ≤ 2 ^ 64 → reader.places ≤ 2 ^ 64
-    → dec_of (signed reader.negative size) ((signed reader.down reader.power -ℤ pos reader.places) +ℤ pos more)
+    → dec_of (signed reader.negative size)
+    ((signed reader.down reader.power -ℤ pos reader.places) +ℤ pos more)
     ≡ dec_value (spelled s)
 read_value reader s size more stands digits few small near =
     let e : ℤ = signed s.down s.power -ℤ pos s.places in
-    dec_of-capped reader.negative reader.down size more reader.places reader.power s.power few small near stands.power
+    dec_of-capped reader.negative reader.down size more reader.places reader.power s.power few small
+    near stands.power
     ∙ rw (stands.negative, stands.down, stands.places) refl
-    ∙ sym (ap (λ n. dec_of (signed s.negative n) e) digits ∙ dec_of-noughts s.negative size more e few)
+    ∙ sym (ap (λ n. dec_of (signed s.negative n) e) digits
+    ∙ dec_of-noughts s.negative size more e few)
 
 pub read_wide : (s : State) → IsWide s.digits → None ≡ dec_value (spelled s)
 read_wide s wide =

@@ -25,7 +25,8 @@ neg_times (suc k) q = refl
 
 times_twice : (m : ℤ) (p q : ℕ) → (m *ℤ pos p) *ℤ pos q ≡ m *ℤ pos (p * q)
 times_twice (pos n) p q = ap pos (mul_assoc n p q)
-times_twice (negsuc n) p q = neg_times (suc n * p) q ∙ ap (λ k. neg_ℤ (pos k)) (mul_assoc (suc n) p q)
+times_twice (negsuc n) p q = neg_times (suc n * p) q
+    ∙ ap (λ k. neg_ℤ (pos k)) (mul_assoc (suc n) p q)
 
 -- a number by its mantissa, at a lesser shift
 pub at_level : (m raised : ℤ) (shift low : ℕ) (z : ℤ) → low ≤ shift
@@ -44,7 +45,8 @@ times_sum a b p =
     ≡ signed (is_negative a) (unsigned_abs a) +ℤ signed (is_negative b) (unsigned_abs b) =
     signed-parts (a +ℤ b) ∙ sym (ap₂ ◌+ℤ◌ (signed-parts a) (signed-parts b)) in
     sym (times_is (a +ℤ b) p)
-    ∙ sum_times p (is_negative (a +ℤ b)) (unsigned_abs (a +ℤ b)) (is_negative a) (unsigned_abs a) (is_negative b)
+    ∙ sum_times p (is_negative (a +ℤ b)) (unsigned_abs (a +ℤ b)) (is_negative a) (unsigned_abs a)
+    (is_negative b)
     (unsigned_abs b) parts
     ∙ ap₂ ◌+ℤ◌ (times_is a p) (times_is b p)
 
@@ -56,8 +58,10 @@ sum_at a b x y k one two = ap in_range (times_sum a b (10 ^ k) ∙ ap₂ ◌+ℤ
 pub few_at : (m r : ℤ) (gap : ℕ) → unsigned_abs m ≤ 2 ^ 63 → gap ≤ 18 → r ≡ m *ℤ pos (10 ^ gap)
     → unsigned_abs r < 10 ^ 37
 few_at m r gap few near is =
-    let abs : unsigned_abs r ≡ unsigned_abs m * 10 ^ gap = ap unsigned_abs is ∙ unsigned_abs-mul m (pos (10 ^ gap)) in
-    let power : 10 ^ gap ≤ 10 ^ 18 = pow-le-pow_right {n = 10} (omega arith) {i = gap} {j = 18} near in
+    let abs : unsigned_abs r ≡ unsigned_abs m * 10 ^ gap = ap unsigned_abs is
+    ∙ unsigned_abs-mul m (pos (10 ^ gap)) in
+    let power : 10 ^ gap ≤ 10 ^ 18 =
+    pow-le-pow_right {n = 10} (omega arith) {i = gap} {j = 18} near in
     let most : unsigned_abs m * 10 ^ gap ≤ 2 ^ 63 * 10 ^ 18 = mul-le-mul few power in
     omega arith
 
@@ -71,17 +75,20 @@ times_less (negsuc n) (pos m) p some less =
     let more : 0 * p < suc n * p = mul-lt-mul_of_pos_right {m = 0} {n = suc n} (omega arith) some in
     omega (arith, ints)
 times_less (negsuc n) (negsuc m) p some less =
-    let more : suc m * p < suc n * p = mul-lt-mul_of_pos_right {m = suc m} {n = suc n} (omega (arith, ints)) some in
+    let more : suc m * p < suc n * p =
+    mul-lt-mul_of_pos_right {m = suc m} {n = suc n} (omega (arith, ints)) some in
     omega (arith, ints)
 
-pub order_at : (a b x y : ℤ) (k : ℕ) → a *ℤ pos (10 ^ k) ≡ x → b *ℤ pos (10 ^ k) ≡ y → int_cmp a b ≡ int_cmp x y
+pub order_at : (a b x y : ℤ) (k : ℕ) → a *ℤ pos (10 ^ k) ≡ x → b *ℤ pos (10 ^ k) ≡ y
+    → int_cmp a b ≡ int_cmp x y
 order_at a b x y k one two =
     int_cmp_is x y (int_cmp a b) (go (int_cmp a b) (int_ranks a b))
   where
     less : (c d : ℤ) → c <ℤ d → (c *ℤ pos (10 ^ k)) <ℤ (d *ℤ pos (10 ^ k))
     less c d = times_less c d (10 ^ k) (ten_pos k)
 
-    go : (r : Ordering) → MatchOrdering r (a <ℤ b) (a ≡ b) (b <ℤ a) → MatchOrdering r (x <ℤ y) (x ≡ y) (y <ℤ x)
+    go : (r : Ordering) → MatchOrdering r (a <ℤ b) (a ≡ b) (b <ℤ a)
+        → MatchOrdering r (x <ℤ y) (x ≡ y) (y <ℤ x)
     go Less h = rw (← one, ← two) (less a b h)
     go Equal h = sym one ∙ ap (λ c. c *ℤ pos (10 ^ k)) h ∙ two
     go Greater h = rw (← one, ← two) (less b a h)

@@ -23,7 +23,8 @@ text_of_zero negative size shift is none =
     let none_is : (size == 0) ≡ true = grind (arith, nat_tests) in
     rw (text_of_parts negative size shift is, none_is) refl
 
-pub text_of_other : (negative : Bool) (size shift : ℕ) → IsDecForm negative size shift → (size ≡ 0 → ⊥)
+pub text_of_other : (negative : Bool) (size shift : ℕ) → IsDecForm negative size shift
+    → (size ≡ 0 → ⊥)
     → number_text (number negative size shift) ≡ sign negative ++ size_text (decimal size) shift
 text_of_other negative size shift is some =
     let other : (size == 0) ≡ false = grind (arith, nat_tests) in

@@ -45,7 +45,8 @@ higher_shift one two high low over =
     sym (pow-add 10 (high - low) low) ∙ ap (λ n. 10 ^ n) (omega arith) in
     let whole : raised * 10 ^ low ≡ one * 10 ^ high =
     mul_assoc one (10 ^ (high - low)) (10 ^ low) ∙ ap (λ n. one * n) shifts in
-    sym (same_factor raised two (10 ^ low) (ten_pos low)) ∙ ap (λ n. nat_cmp n (two * 10 ^ low)) whole
+    sym (same_factor raised two (10 ^ low) (ten_pos low))
+    ∙ ap (λ n. nat_cmp n (two * 10 ^ low)) whole
 
 -- equal numbers have equal fields
 pub unlike : (s o : Inside) (y z : ℤ) → InForm s → InForm o → Is s y → Is o z
@@ -54,7 +55,8 @@ unlike s o y z form other is_y is_z differ =
     let apart : y ≡ z → ⊥ = λ h.
     let forms = sym (form_of-inside s y form is_y) ∙ ap form_of h ∙ form_of-inside o z other is_z in
     let mantissas : s.mantissa ≡ o.mantissa =
-    sym (signed-parts s.mantissa) ∙ ap (λ f. signed f.negative f.size) forms ∙ signed-parts o.mantissa in
+    sym (signed-parts s.mantissa) ∙ ap (λ f. signed f.negative f.size) forms
+    ∙ signed-parts o.mantissa in
     differ mantissas (ap (λ f. f.shift) forms) in
     grind (arith, Decides-int_eq y z)
 
@@ -79,8 +81,10 @@ opposite zero m some = absurd (omega arith)
 opposite (suc n) m some = (refl, refl)
 
 pub below_zero : (a b : Bool) (x y i j : ℕ) → (x ≡ 0 → a ≡ false) → a ≡ true → b ≡ false
-    → (Less ≡ int_cmp (number a x i) (number b y j)) × (Greater ≡ int_cmp (number b y j) (number a x i))
+    → (Less ≡ int_cmp (number a x i) (number b y j))
+    × (Greater ≡ int_cmp (number b y j) (number a x i))
 below_zero a b x y i j plus minus plus_too =
-    let some : 0 < x = ⊎_elim (λ none. absurd (cc (minus, plus none))) (λ h. omega arith) (cases_eq x 0) in
+    let some : 0 < x =
+    ⊎_elim (λ none. absurd (cc (minus, plus none))) (λ h. omega arith) (cases_eq x 0) in
     let whole = one-le-mul {a = x} some (ten_pos i) in
     rw (minus, plus_too) (opposite (x * 10 ^ i) (y * 10 ^ j) whole)

@@ -87,7 +87,8 @@ pub record Spells (text : List ℕ) (size shift : ℕ) : Type 0 where
   pub last : (power -ℤ pos places) +ℤ pos behind ≡ pos shift -ℤ pos 1000
 
 -- zeros after the digits
-plain_whole : (size shift : ℕ) → size < 10 ^ 38 → 1000 ≤ shift → Spells (plain (decimal size) shift) size shift
+plain_whole : (size shift : ℕ) → size < 10 ^ 38 → 1000 ≤ shift
+    → Spells (plain (decimal size) shift) size shift
 plain_whole size shift few high =
     let ds = decimal size in
     let d = decimal_of size few in
@@ -96,11 +97,15 @@ plain_whole size shift few high =
     let text = ds ++ noughts (shift - 1000) in
     let yes : nat_le 1000 shift ≡ true = grind (arith, nat_tests) in
     let is : plain (decimal size) shift ≡ decimal size ++ noughts (shift - 1000) = rw yes refl in
-    let value : digits_value 10 (decimal size ++ noughts (shift - 1000)) ≡ size * 10 ^ (shift - 1000) =
-    value_append 0 ds (noughts k) ∙ ap (λ n. digits_value_after 10 n (noughts k)) d.value ∙ noughts_value size k in
-    let nil : (decimal size ++ noughts (shift - 1000)) ++ [] ≡ decimal size ++ noughts (shift - 1000) =
+    let value : digits_value 10 (decimal size ++ noughts (shift - 1000)) ≡ size
+    * 10 ^ (shift - 1000) =
+    value_append 0 ds (noughts k) ∙ ap (λ n. digits_value_after 10 n (noughts k)) d.value
+    ∙ noughts_value size k in
+    let nil : (decimal size ++ noughts (shift - 1000)) ++ [] ≡ decimal size
+    ++ noughts (shift - 1000) =
     append-nil (decimal size ++ noughts (shift - 1000)) in
-    let last : (pos 0 -ℤ pos 0) +ℤ pos (shift - 1000) ≡ pos shift -ℤ pos 1000 = omega (arith, ints) in
+    let last : (pos 0 -ℤ pos 0) +ℤ pos (shift - 1000) ≡ pos shift -ℤ pos 1000 =
+    omega (arith, ints) in
     record {
       mantissa = text;
       exponent = [];
@@ -127,7 +132,8 @@ plain_whole size shift few high =
     }
 
 -- the point among the digits
-plain_point : (size shift : ℕ) → size < 10 ^ 38 → shift < 1000 → 1000 < length (decimal size) + shift
+plain_point : (size shift : ℕ) → size < 10 ^ 38 → shift < 1000
+    → 1000 < length (decimal size) + shift
     → Spells (plain (decimal size) shift) size shift
 plain_point size shift few low some =
     let ds = decimal size in
@@ -141,7 +147,8 @@ plain_point size shift few low some =
     rw (no, more) (append_assoc (take w ds) (codes ".") (drop w ds)) in
     let count : length (drop (length (decimal size) + shift - 1000) (decimal size)) ≡ 1000 - shift =
     length-drop w ds ∙ omega arith in
-    let last : (pos 0 -ℤ pos (1000 - shift)) +ℤ pos 0 ≡ pos shift -ℤ pos 1000 = omega (arith, ints) in
+    let last : (pos 0 -ℤ pos (1000 - shift)) +ℤ pos 0 ≡ pos shift -ℤ pos 1000 =
+    omega (arith, ints) in
     record {
       mantissa = take w ds ++ (codes "." ++ drop w ds);
       exponent = [];
@@ -168,7 +175,8 @@ plain_point size shift few low some =
     }
 
 -- `0.` and zeros before the digits
-plain_fraction : (size shift : ℕ) → size < 10 ^ 38 → shift < 1000 → length (decimal size) + shift ≤ 1000
+plain_fraction : (size shift : ℕ) → size < 10 ^ 38 → shift < 1000
+    → length (decimal size) + shift ≤ 1000
     → Spells (plain (decimal size) shift) size shift
 plain_fraction size shift few low none =
     let ds = decimal size in
@@ -177,14 +185,17 @@ plain_fraction size shift few low none =
     let no : nat_le 1000 shift ≡ false = grind (arith, nat_tests) in
     let less : nat_lt 0 (length (decimal size) + shift - 1000) ≡ false = grind (arith, nat_tests) in
     let is : plain (decimal size) shift
-    ≡ codes "0." ++ (noughts (1000 - (length (decimal size) + shift)) ++ decimal size) = rw (no, less) refl in
-    let count : length (noughts (1000 - (length (decimal size) + shift)) ++ decimal size) ≡ 1000 - shift =
+    ≡ codes "0." ++ (noughts (1000 - (length (decimal size) + shift)) ++ decimal size) =
+    rw (no, less) refl in
+    let count : length (noughts (1000 - (length (decimal size) + shift)) ++ decimal size) ≡ 1000
+    - shift =
     length-append (noughts z) ds ∙ ap (λ n. n + length ds) (length-replicate z 48) ∙ omega arith in
     let nought : 0 * 10 ^ z ≡ 0 = omega arith in
     let value : digits_value 10 (codes "0" ++ (noughts z ++ ds)) ≡ size =
     value_append 0 (noughts z) ds
     ∙ ap (λ n. digits_value_after 10 n ds) (noughts_value 0 z ∙ nought) ∙ d.value in
-    let last : (pos 0 -ℤ pos (1000 - shift)) +ℤ pos 0 ≡ pos shift -ℤ pos 1000 = omega (arith, ints) in
+    let last : (pos 0 -ℤ pos (1000 - shift)) +ℤ pos 0 ≡ pos shift -ℤ pos 1000 =
+    omega (arith, ints) in
     record {
       mantissa = codes "0." ++ (noughts z ++ ds);
       exponent = [];
@@ -211,7 +222,8 @@ plain_fraction size shift few low none =
     }
 
 -- a power of ten with its sign
-exponent_is : (place : ℕ) → place < 10 ^ 38 → IsExponent (codes "e" ++ power place) (pos place -ℤ pos 1000)
+exponent_is : (place : ℕ) → place < 10 ^ 38
+    → IsExponent (codes "e" ++ power place) (pos place -ℤ pos 1000)
 exponent_is place few =
     ⊎_elim
     (λ (low : place < 1000).
@@ -288,12 +300,14 @@ front_is size few =
     (cases_lt 1 (length (decimal size)))
 
 scientific_is : (size shift place : ℕ) → size < 10 ^ 38 → place < 10 ^ 38
-    → place ≡ length (decimal size) + shift - 1 → Spells (scientific (decimal size) place) size shift
+    → place ≡ length (decimal size) + shift - 1
+    → Spells (scientific (decimal size) place) size shift
 scientific_is size shift place few near is =
     let ds = decimal size in
     let d = decimal_of size few in
     let some = d.some in
-    let last : ((pos place -ℤ pos 1000) -ℤ pos (length (decimal size) - 1)) +ℤ pos 0 ≡ pos shift -ℤ pos 1000 =
+    let last : ((pos place -ℤ pos 1000) -ℤ pos (length (decimal size) - 1)) +ℤ pos 0
+    ≡ pos shift -ℤ pos 1000 =
     omega (arith, ints) in
     record {
       mantissa = take 1 ds ++ fraction ds;
@@ -313,10 +327,12 @@ scientific_is size shift place few near is =
 pub size_spells : (size shift : ℕ) → size < 10 ^ 38 → shift ≤ 2000 → length (decimal size) ≤ 38
     → Spells (size_text (decimal size) shift) size shift
 size_spells size shift few high short =
-    go (nat_le 993 (length (decimal size) + shift - 1) && nat_le (length (decimal size) + shift - 1) 1020) refl
+    go (nat_le 993 (length (decimal size) + shift - 1)
+    && nat_le (length (decimal size) + shift - 1) 1020) refl
   where
     go : (near : Bool)
-        → (nat_le 993 (length (decimal size) + shift - 1) && nat_le (length (decimal size) + shift - 1) 1020) ≡ near
+        → (nat_le 993 (length (decimal size) + shift - 1)
+        && nat_le (length (decimal size) + shift - 1) 1020) ≡ near
         → Spells (size_text (decimal size) shift) size shift
     go true near =
         let all : Spells (plain (decimal size) shift) size shift =
@@ -330,11 +346,13 @@ size_spells size shift few high short =
         (cases_lt shift 1000) in
         rw near all
     go false near =
-        rw near (scientific_is size shift (length (decimal size) + shift - 1) few (omega arith) refl)
+        rw near (scientific_is size shift (length (decimal size) + shift - 1) few (omega arith)
+        refl)
 
 -- with a sign
 pub number_of_text : (minus : Bool) (text : List ℕ) (size shift : ℕ) (s : Spells text size shift)
-    → IsNumber (sign minus ++ text) (record { negative = minus; digits = s.digits; exponent = s.power -ℤ pos s.places })
+    → IsNumber (sign minus ++ text)
+    (record { negative = minus; digits = s.digits; exponent = s.power -ℤ pos s.places })
 number_of_text minus text size shift s = record {
   sign = sign minus;
   mantissa = s.mantissa;
@@ -352,7 +370,8 @@ number_of_text minus text size shift s = record {
     signed_text true = refl
     signed_text false = inr refl
 
-pub nought_text : IsNumber (codes "0") (record { negative = false; digits = 0; exponent = pos 0 -ℤ pos 0 })
+pub nought_text :
+    IsNumber (codes "0") (record { negative = false; digits = 0; exponent = pos 0 -ℤ pos 0 })
 nought_text = record {
   sign = [];
   mantissa = codes "0";
@@ -377,19 +396,24 @@ nought_text = record {
   exponent_is = refl;
 }
 
-reads_as : (text : List ℕ) (s : Spelled) (z : ℤ) → IsNumber text s → dec_value s ≡ Some z → dec_reading text ≡ Ok z
+reads_as : (text : List ℕ) (s : Spelled) (z : ℤ) → IsNumber text s → dec_value s ≡ Some z
+    → dec_reading text ≡ Ok z
 unfolding dec_reading
 reads_as text s z is value = ap dec_valued (number_reading-number text s is) ∙ ap or_too_wide value
 
 -- the number that is spelled is that of the size and the shift
-same_number : (minus : Bool) (text : List ℕ) (size shift : ℕ) (s : Spells text size shift) → size < 10 ^ 38
-    → dec_of (signed minus s.digits) (s.power -ℤ pos s.places) ≡ dec_of (signed minus size) (pos shift -ℤ pos 1000)
+same_number : (minus : Bool) (text : List ℕ) (size shift : ℕ) (s : Spells text size shift)
+    → size < 10 ^ 38
+    → dec_of (signed minus s.digits) (s.power -ℤ pos s.places)
+    ≡ dec_of (signed minus size) (pos shift -ℤ pos 1000)
 same_number minus text size shift s few =
     ap (λ n. dec_of (signed minus n) (s.power -ℤ pos s.places)) s.whole
-    ∙ dec_of-noughts minus size s.behind (s.power -ℤ pos s.places) few ∙ ap (dec_of (signed minus size)) s.last
+    ∙ dec_of-noughts minus size s.behind (s.power -ℤ pos s.places) few
+    ∙ ap (dec_of (signed minus size)) s.last
 
 -- the text of a number by its parts
-pub parts_read : (minus : Bool) (size shift : ℕ) → IsDecForm minus size shift → length (decimal size) ≤ 38
+pub parts_read : (minus : Bool) (size shift : ℕ) → IsDecForm minus size shift
+    → length (decimal size) ≤ 38
     → dec_reading (if size == 0 then codes "0" else sign minus ++ size_text (decimal size) shift)
     ≡ Ok (number minus size shift)
 parts_read minus size shift form short =
@@ -397,17 +421,24 @@ parts_read minus size shift form short =
     (λ (none : size ≡ 0).
     let yes : (size == 0) ≡ true = grind (arith, nat_tests) in
     let nought : number minus size shift ≡ pos 0 =
-    ap (λ n. signed minus (n * 10 ^ shift)) none ∙ ap (signed minus) (omega arith) ∙ signed-zero minus in
+    ap (λ n. signed minus (n * 10 ^ shift)) none ∙ ap (signed minus) (omega arith)
+    ∙ signed-zero minus in
     rw yes
-    (reads_as (codes "0") (record { negative = false; digits = 0; exponent = pos 0 -ℤ pos 0 }) (pos 0) nought_text
+    (reads_as (codes "0") (record { negative = false; digits = 0; exponent = pos 0 -ℤ pos 0 })
+    (pos 0) nought_text
     (dec_of-zero (pos 0 -ℤ pos 0)) ∙ ap Ok (sym nought)))
     (λ (some : size ≡ 0 → ⊥).
     let no : (size == 0) ≡ false = grind (arith, nat_tests) in
     let spells = size_spells size shift form.few form.high short in
     rw no
     (reads_as (sign minus ++ size_text (decimal size) shift)
-    (record { negative = minus; digits = spells.digits; exponent = spells.power -ℤ pos spells.places })
-    (number minus size shift) (number_of_text minus (size_text (decimal size) shift) size shift spells)
+    (record {
+      negative = minus;
+      digits = spells.digits;
+      exponent = spells.power -ℤ pos spells.places;
+    })
+    (number minus size shift)
+    (number_of_text minus (size_text (decimal size) shift) size shift spells)
     (same_number minus (size_text (decimal size) shift) size shift spells form.few
     ∙ dec_of-form minus size shift (pos shift -ℤ pos 1000) form refl)))
     (cases_eq size 0)
@@ -436,7 +467,8 @@ IsDecForm-form_of z is =
     (λ h.
     let form = form_of-bare z (omega arith) in
     let limits = within (bare z).0 (bare z).1 (rw form at is) in
-    let last : (bare z).0 % 10 ≡ 0 → ⊥ = stripped_end 2001 (unsigned_abs z) (omega (arith, limits.1)) in
+    let last : (bare z).0 % 10 ≡ 0 → ⊥ =
+    stripped_end 2001 (unsigned_abs z) (omega (arith, limits.1)) in
     subst (λ f. IsDecForm f.negative f.size f.shift) (sym form)
     (record {
       few = limits.0;
@@ -452,4 +484,5 @@ pub printed_read : (z : ℤ) → is_dec z ≡ true → dec_reading (number_text 
 printed_read z is =
     let f = form_of z in
     let form = IsDecForm-form_of z is in
-    parts_read f.negative f.size f.shift form (few_digits f.size form.few) ∙ ap Ok (number-form_of z)
+    parts_read f.negative f.size f.shift form (few_digits f.size form.few)
+    ∙ ap Ok (number-form_of z)

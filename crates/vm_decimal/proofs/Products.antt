@@ -116,7 +116,8 @@ number_mul a x i b y j size tens whole =
     signed_mul a (x * 10 ^ i) b (y * 10 ^ j)
     ∙ ap (signed (differ a b)) (together ∙ tens_too ∙ noughts_add size tens (i + j))
 
-pub product_placed : (a : Bool) (x i : ℕ) (b : Bool) (y j size tens : ℕ) {shift : ℤ} {found : Option ℤ}
+pub product_placed :
+    (a : Bool) (x i : ℕ) (b : Bool) (y j size tens : ℕ) {shift : ℤ} {found : Option ℤ}
     → found ≡ placed (differ a b) size shift → x * y ≡ size * 10 ^ tens → (size % 10 ≡ 0 → ⊥)
     → shift ≡ negsuc 1999 +ℤ pos (1000 + (tens + (i + j)))
     → found ≡ product (number a x i) (number b y j)
@@ -131,7 +132,8 @@ pub product_wide : (a : Bool) (x i : ℕ) (b : Bool) (y j size tens : ℕ)
     → None ≡ product (number a x i) (number b y j)
 product_wide a x i b y j size tens wide whole last =
     let shift = negsuc 1999 +ℤ pos (1000 + (tens + (i + j))) in
-    product_placed a x i b y j size tens {shift = shift} (sym (placed_wide (differ a b) size shift wide))
+    product_placed a x i b y j size tens {shift = shift}
+    (sym (placed_wide (differ a b) size shift wide))
     whole last refl
 
 -- zero times any number
@@ -152,7 +154,8 @@ product_none a x i z none =
     sym (ap (λ y. dec_of (y *ℤ z) (negsuc 1999)) (nought a x i none)
     ∙ ap (λ y. dec_of y (negsuc 1999)) (zero_mul z) ∙ dec_of-zero (negsuc 1999))
 
-pub product_none_too : (a : Bool) (x i : ℕ) (z : ℤ) → x ≡ 0 → Some (pos 0) ≡ product z (number a x i)
+pub product_none_too : (a : Bool) (x i : ℕ) (z : ℤ) → x ≡ 0
+    → Some (pos 0) ≡ product z (number a x i)
 unfolding product
 product_none_too a x i z none =
     sym (ap (λ y. dec_of (z *ℤ y) (negsuc 1999)) (nought a x i none)

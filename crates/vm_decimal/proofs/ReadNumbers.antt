@@ -20,7 +20,8 @@ Reads s text v = result step final s text ≡ Some v
 -- the same of a text after one symbol
 abbrev ReadsNext : State → Symbol → List ℕ → Spelled → Type 0
 ReadsNext s x text v =
-    option_and_then final (option_and_then (λ t. run step t text) (option_map (λ p. taken s p x) (next s.phase x)))
+    option_and_then final
+    (option_and_then (λ t. run step t text) (option_map (λ p. taken s p x) (next s.phase x)))
     ≡ Some v
 
 module _ (n : Bool) (v : Spelled) where
@@ -36,14 +37,17 @@ module _ (n : Bool) (v : Spelled) where
       go (symbol_of b) refl reads (λ e. power_tail d k down (w * 10 + e) bs)
     where
       go : (x : Symbol) → symbol_of b ≡ x → ReadsNext (at_phase Power n d k down w) x bs v
-          → ((e : ℕ) → Reads (at_phase Power n d k down (w * 10 + e)) bs v → MorePower d k down (w * 10 + e) bs)
+          → ((e : ℕ) → Reads (at_phase Power n d k down (w * 10 + e)) bs v
+          → MorePower d k down (w * 10 + e) bs)
           → MorePower d k down w (b ∷ bs)
       go (Digit e) is reads more =
           let digit = digit_from b e is in
           let rest = more e reads in
           record {
             all = (digit.0, rest.all);
-            is = rest.is ∙ ap (λ c. spelled_by n d k down (digits_value_after 10 (w * 10 + c) bs)) (sym digit.1);
+            is = rest.is
+                ∙ ap (λ c. spelled_by n d k down (digits_value_after 10 (w * 10 + c) bs))
+                (sym digit.1);
           }
       go _ is reads more = absurd (cc reads)
 
@@ -61,7 +65,8 @@ module _ (n : Bool) (v : Spelled) where
       record {
         some = omega arith;
         all = (digit.0, rest.all);
-        is = rest.is ∙ ap (λ c. spelled_by n d k down (digits_value_after 10 (0 * 10 + c) bs)) (sym digit.1);
+        is = rest.is
+            ∙ ap (λ c. spelled_by n d k down (digits_value_after 10 (0 * 10 + c) bs)) (sym digit.1);
       }
 
   mark_signed_tail : (d k : ℕ) (down : Bool) (text : List ℕ)
@@ -135,7 +140,9 @@ module _ (n : Bool) (v : Spelled) where
           digits = after.digits;
           negative = after.down;
           parts = ap (λ u. b ∷ u) after.parts;
-          a_letter = ⊎_elim (λ small. inl (ap (λ c. c ∷ []) small)) (λ great. inr (ap (λ c. c ∷ []) great)) (mark_from b is);
+          a_letter =
+              ⊎_elim (λ small. inl (ap (λ c. c ∷ []) small)) (λ great. inr (ap (λ c. c ∷ []) great))
+              (mark_from b is);
           a_sign = after.a_sign;
           all_digits = after.power.all;
           a_digit = after.power.some;
@@ -169,7 +176,10 @@ module _ (n : Bool) (v : Spelled) where
           rest = after.rest;
           parts = ap (λ u. b ∷ u) after.parts;
           all = (digit.0, after.all);
-          ending = subst (λ p. Ending (digits_value_after 10 (d * 10 + digit_value b) after.fraction) p after.rest) far
+          ending =
+              subst (λ p.
+              Ending (digits_value_after 10 (d * 10 + digit_value b) after.fraction) p after.rest)
+              far
               (subst (λ c. Ending c (suc k + length after.fraction) after.rest) value after.ending);
         },
         omega arith,
@@ -193,7 +203,8 @@ module _ (n : Bool) (v : Spelled) where
       go (symbol_of b) refl reads (λ e. fraction_tail (d * 10 + e) (suc k) bs)
     where
       go : (x : Symbol) → symbol_of b ≡ x → ReadsNext (at_phase Fraction n d k false 0) x bs v
-          → ((e : ℕ) → Reads (at_phase Fraction n (d * 10 + e) (suc k) false 0) bs v → AfterPoint (d * 10 + e) (suc k) bs)
+          → ((e : ℕ) → Reads (at_phase Fraction n (d * 10 + e) (suc k) false 0) bs v
+          → AfterPoint (d * 10 + e) (suc k) bs)
           → AfterPoint d k (b ∷ bs)
       go (Digit e) is reads more = (one_more_place d k b e bs is (more e reads)).0
       go Mark is reads more = at_once d k (b ∷ bs) (mark_ending d k b bs is reads)
@@ -231,14 +242,16 @@ module _ (n : Bool) (v : Spelled) where
       go (symbol_of b) refl reads (λ e. whole_tail (d * 10 + e) bs)
     where
       go : (x : Symbol) → symbol_of b ≡ x → ReadsNext (at_phase Whole n d 0 false 0) x bs v
-          → ((e : ℕ) → Reads (at_phase Whole n (d * 10 + e) 0 false 0) bs v → AfterWhole (d * 10 + e) bs)
+          → ((e : ℕ) → Reads (at_phase Whole n (d * 10 + e) 0 false 0) bs v
+          → AfterWhole (d * 10 + e) bs)
           → AfterWhole d (b ∷ bs)
       go (Digit e) is reads more =
           let digit = digit_from b e is in
           let after = more e reads in
           let value : digits_value_after 10 (d * 10 + e) (after.whole ++ after.fraction)
           ≡ digits_value_after 10 (d * 10 + digit_value b) (after.whole ++ after.fraction) =
-          ap (λ c. digits_value_after 10 (d * 10 + c) (after.whole ++ after.fraction)) (sym digit.1) in
+          ap (λ c. digits_value_after 10 (d * 10 + c) (after.whole ++ after.fraction))
+          (sym digit.1) in
           record {
             whole = b ∷ after.whole;
             point = after.point;
@@ -366,7 +379,9 @@ module _ (n : Bool) (v : Spelled) where
         power = e.power;
         parts = parts ∙ ap (λ t. sign ++ t) tail.parts;
         a_sign = subst (λ m. IsSign m sign) (ap (λ u. u.negative) (sym e.is)) a_sign;
-        a_mantissa = subst (λ d. IsMantissa tail.mantissa d tail.places) (ap (λ u. u.digits) (sym e.is)) tail.a_mantissa;
+        a_mantissa =
+            subst (λ d. IsMantissa tail.mantissa d tail.places) (ap (λ u. u.digits) (sym e.is))
+            tail.a_mantissa;
         an_exponent = e.an_exponent;
         exponent_is = ap (λ u. u.exponent) e.is;
       }
@@ -379,13 +394,15 @@ number_from_read (b ∷ bs) v reads = go (symbol_of b) refl reads
   where
     go : (x : Symbol) → symbol_of b ≡ x → ReadsNext start x bs v → IsNumber (b ∷ bs) v
     go (Digit e) is reads =
-        number_with false v (b ∷ bs) [] (b ∷ bs) refl (inr refl) (digit_front false v b e bs is reads)
+        number_with false v (b ∷ bs) [] (b ∷ bs) refl (inr refl)
+        (digit_front false v b e bs is reads)
     go Point is reads =
         number_with false v (b ∷ bs) [] (b ∷ bs) refl (inr refl) (point_front false v b bs is reads)
     go (Sign true) is reads =
         number_with true v (b ∷ bs) (codes "-") bs (ap (λ c. c ∷ bs) (sign_from b true is)) refl
         (signed_tail true v bs reads)
     go (Sign false) is reads =
-        number_with false v (b ∷ bs) (codes "+") bs (ap (λ c. c ∷ bs) (sign_from b false is)) (inl refl)
+        number_with false v (b ∷ bs) (codes "+") bs (ap (λ c. c ∷ bs) (sign_from b false is))
+        (inl refl)
         (signed_tail false v bs reads)
     go _ is reads = absurd (cc reads)

@@ -35,19 +35,23 @@ module _ (text : List ℕ) (at : ℕ) (s : State) (here : at < length text)
   pub stuck : step s (get_or text at 0) ≡ None → number_reading text ≡ Err at
   stuck none =
       let parts : text ≡ take at text ++ (get_or text at 0 ∷ drop (suc at) text) =
-      sym (take-append-drop at text) ∙ ap (λ rest. take at text ++ rest) (drop-cons text at 0 here) in
+      sym (take-append-drop at text)
+      ∙ ap (λ rest. take at text ++ rest) (drop-cons text at 0 here) in
       let far : length (take at text) ≡ at = length-take-le at text (omega arith) in
       ap number_reading parts
-      ∙ reading-stuck step final (take at text) (drop (suc at) text) start s (get_or text at 0) there none
+      ∙ reading-stuck step final (take at text) (drop (suc at) text) start s (get_or text at 0)
+      there none
       ∙ ap Err far
 
 -- and at its end
-pub reading_there : (text : List ℕ) (s : State) → run step start text ≡ Some s → may_end s.phase ≡ true
+pub reading_there : (text : List ℕ) (s : State) → run step start text ≡ Some s
+    → may_end s.phase ≡ true
     → number_reading text ≡ Ok (spelled s)
 reading_there text s there done =
     reading-end step final text start s there ∙ rw done refl
 
-pub reading_short : (text : List ℕ) (s : State) → run step start text ≡ Some s → may_end s.phase ≡ false
+pub reading_short : (text : List ℕ) (s : State) → run step start text ≡ Some s
+    → may_end s.phase ≡ false
     → number_reading text ≡ Err (length text)
 reading_short text s there done =
     reading-end step final text start s there ∙ rw done refl

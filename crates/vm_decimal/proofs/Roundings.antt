@@ -37,9 +37,12 @@ surplus_on zero n k within low high = absurd (omega (arith, ten_pos (18 + k)))
 surplus_on (suc more) n zero within low high =
     surplus-many more n low ∙ ap (λ d. d + 1) (surplus-few more (n / 10) (omega arith))
 surplus_on (suc more) n (suc k) within low high =
-    let first : 10 ^ (18 + suc k) ≡ 10 * 10 ^ (18 + k) = ap (λ e. 10 ^ e) (add-suc 18 k) ∙ power_next (18 + k) in
-    let next : 10 ^ (19 + suc k) ≡ 10 * 10 ^ (19 + k) = ap (λ e. 10 ^ e) (add-suc 19 k) ∙ power_next (19 + k) in
-    let great : 10 ^ 18 ≤ 10 ^ (18 + suc k) = pow-le-pow_right {n = 10} (omega arith) {i = 18} {j = 18 + suc k} (omega arith) in
+    let first : 10 ^ (18 + suc k) ≡ 10 * 10 ^ (18 + k) = ap (λ e. 10 ^ e) (add-suc 18 k)
+    ∙ power_next (18 + k) in
+    let next : 10 ^ (19 + suc k) ≡ 10 * 10 ^ (19 + k) = ap (λ e. 10 ^ e) (add-suc 19 k)
+    ∙ power_next (19 + k) in
+    let great : 10 ^ 18 ≤ 10 ^ (18 + suc k) =
+    pow-le-pow_right {n = 10} (omega arith) {i = 18} {j = 18 + suc k} (omega arith) in
     surplus-many more n (omega arith)
     ∙ ap (λ d. d + 1) (surplus_on more (n / 10) k (omega arith) (omega arith) (omega arith))
     ∙ add-one (suc k)
@@ -75,7 +78,8 @@ module _ (kept k tail : ℕ) (less : tail < 10 ^ k) where
   parts : kept / 10 * 10 ^ suc k + left ≡ all
   parts =
       let split : kept / 10 * 10 + kept % 10 ≡ kept = div-add-mod' kept 10 in
-      let spread : (kept / 10 * 10 + kept % 10) * 10 ^ k ≡ kept * 10 ^ k = ap (λ m. m * 10 ^ k) split in
+      let spread : (kept / 10 * 10 + kept % 10) * 10 ^ k ≡ kept * 10 ^ k =
+      ap (λ m. m * 10 ^ k) split in
       omega (arith, spread, tens (kept / 10) k)
 
   tens_is : 10 ^ suc k ≡ 10 * 10 ^ k
@@ -90,31 +94,38 @@ module _ (kept k tail : ℕ) (less : tail < 10 ^ k) where
       ⊎_elim
       (λ (more : sticky ≡ true).
       let up : tenth_of kept sticky ≡ kept / 10 + 1 = grind (arith, nat_tests) in
-      rw up (IsNearest-next all (10 ^ suc k) (kept / 10) left parts (omega (arith, tens_is)) (omega (arith, tens_is))
+      rw up (IsNearest-next all (10 ^ suc k) (kept / 10) left parts (omega (arith, tens_is))
+      (omega (arith, tens_is))
       (λ tie even. let above = some more in absurd (omega (arith, tens_is)))))
       (λ (exact : sticky ≡ false).
       ⊎_elim
       (λ (odd : kept / 10 % 2 ≡ 1).
       let up : tenth_of kept sticky ≡ kept / 10 + 1 = grind (arith, nat_tests) in
-      rw up (IsNearest-next all (10 ^ suc k) (kept / 10) left parts (omega (arith, tens_is)) (omega (arith, tens_is))
+      rw up (IsNearest-next all (10 ^ suc k) (kept / 10) left parts (omega (arith, tens_is))
+      (omega (arith, tens_is))
       (λ tie even. absurd (omega arith))))
       (λ (even : kept / 10 % 2 ≡ 1 → ⊥).
       let down : tenth_of kept sticky ≡ kept / 10 = grind (arith, nat_tests) in
       let nothing : tail ≡ 0 = none exact in
-      rw down (IsNearest-whole all (10 ^ suc k) (kept / 10) left parts (omega (arith, tens_is)) (λ tie. omega arith)))
+      rw down (IsNearest-whole all (10 ^ suc k) (kept / 10) left parts (omega (arith, tens_is))
+      (λ tie. omega arith)))
       (cases_eq (kept / 10 % 2) 1))
       (cases_Bool sticky))
       (⊎_elim
       (λ (below : kept % 10 < 5).
-      let four : kept % 10 * 10 ^ k ≤ 4 * 10 ^ k = mul-le-mul_right {m = kept % 10} {n = 4} (10 ^ k) (omega arith) in
+      let four : kept % 10 * 10 ^ k ≤ 4 * 10 ^ k =
+      mul-le-mul_right {m = kept % 10} {n = 4} (10 ^ k) (omega arith) in
       let down : tenth_of kept sticky ≡ kept / 10 = grind (arith, nat_tests) in
       rw down (IsNearest-whole all (10 ^ suc k) (kept / 10) left parts (omega (arith, tens_is))
       (λ tie. absurd (omega (arith, tens_is)))))
       (λ (above : 5 < kept % 10).
-      let six : 6 * 10 ^ k ≤ kept % 10 * 10 ^ k = mul-le-mul_right {m = 6} {n = kept % 10} (10 ^ k) (omega arith) in
-      let nine : kept % 10 * 10 ^ k ≤ 9 * 10 ^ k = mul-le-mul_right {m = kept % 10} {n = 9} (10 ^ k) (omega arith) in
+      let six : 6 * 10 ^ k ≤ kept % 10 * 10 ^ k =
+      mul-le-mul_right {m = 6} {n = kept % 10} (10 ^ k) (omega arith) in
+      let nine : kept % 10 * 10 ^ k ≤ 9 * 10 ^ k =
+      mul-le-mul_right {m = kept % 10} {n = 9} (10 ^ k) (omega arith) in
       let up : tenth_of kept sticky ≡ kept / 10 + 1 = grind (arith, nat_tests) in
-      rw up (IsNearest-next all (10 ^ suc k) (kept / 10) left parts (omega (arith, tens_is)) (omega (arith, tens_is))
+      rw up (IsNearest-next all (10 ^ suc k) (kept / 10) left parts (omega (arith, tens_is))
+      (omega (arith, tens_is))
       (λ tie. absurd (omega (arith, tens_is))))))
       (cases_order (kept % 10) 5)
 
@@ -131,12 +142,14 @@ none_dropped l n few is =
     let less = is.less in
     let same : l.kept * 10 ^ l.dropped ≡ l.kept * 1 = ap (λ p. l.kept * p) one in
     let exact : l.sticky ≡ false =
-    ⊎_elim (λ more. let above = is.some more in absurd (omega arith)) (λ no_more. no_more) (cases_Bool l.sticky) in
+    ⊎_elim (λ more. let above = is.some more in absurd (omega arith)) (λ no_more. no_more)
+    (cases_Bool l.sticky) in
     (none, one, omega arith, exact)
 
 -- one digit more, which is kept or dropped
 pub kept_more : (l : Leading) (n digit : ℕ) → l.kept < 10 ^ 18 → digit < 10 → Leads l n
-    → Leads (record { kept = l.kept * 10 + digit; dropped = l.dropped; sticky = l.sticky }) (n * 10 + digit)
+    → Leads (record { kept = l.kept * 10 + digit; dropped = l.dropped; sticky = l.sticky })
+    (n * 10 + digit)
 kept_more l n digit few small is =
     let bare = none_dropped l n few is in
     let none = bare.0 in
@@ -170,7 +183,8 @@ dropped_more l n digit sticky many small above_zero all_zero is =
       whole = omega arith;
       less = omega arith;
       some = λ more.
-          ⊎_elim (λ before. let above = is.some before in omega arith) (λ here. omega arith) (above_zero more);
+          ⊎_elim (λ before. let above = is.some before in omega arith) (λ here. omega arith)
+          (above_zero more);
       none = λ no_more.
           let nothing = is.none (all_zero no_more).0 in
           let nought = (all_zero no_more).1 in
@@ -197,15 +211,19 @@ many_rounding l n many is =
     let few = is.few in
     let low : 10 ^ (18 + k) ≡ 10 ^ 18 * 10 ^ k = pow-add 10 18 k in
     let high : 10 ^ (19 + k) ≡ 10 ^ 19 * 10 ^ k = pow-add 10 19 k in
-    let above : 10 ^ 18 * 10 ^ k ≤ l.kept * 10 ^ k = mul-le-mul_right {m = 10 ^ 18} {n = l.kept} (10 ^ k) (omega arith) in
-    let below : suc l.kept * 10 ^ k ≤ 10 ^ 19 * 10 ^ k = mul-le-mul_right {m = suc l.kept} {n = 10 ^ 19} (10 ^ k) few in
+    let above : 10 ^ 18 * 10 ^ k ≤ l.kept * 10 ^ k =
+    mul-le-mul_right {m = 10 ^ 18} {n = l.kept} (10 ^ k) (omega arith) in
+    let below : suc l.kept * 10 ^ k ≤ 10 ^ 19 * 10 ^ k =
+    mul-le-mul_right {m = suc l.kept} {n = 10 ^ 19} (10 ^ k) few in
     let more : surplus n ≡ suc k = surplus-long n k (omega arith) (omega arith) in
     let near : IsNearest n (10 ^ suc k) (tenth_of l.kept l.sticky) =
     subst (λ m. IsNearest m (10 ^ suc k) (tenth_of l.kept l.sticky)) (sym whole)
     (by_last l.kept k is.tail less l.sticky is.some is.none) in
     record {
       more_is = add-one k ∙ sym more;
-      size_is = IsNearest-one n (10 ^ suc k) (tenth_of l.kept l.sticky) (nearest n (10 ^ suc k)) (ten_pos (suc k))
+      size_is =
+          IsNearest-one n (10 ^ suc k) (tenth_of l.kept l.sticky) (nearest n (10 ^ suc k))
+          (ten_pos (suc k))
           near (nearest-IsNearest n (10 ^ suc k) (ten_pos (suc k)))
           ∙ ap (λ e. nearest n (10 ^ e)) (sym (add-one k));
     }
@@ -222,8 +240,10 @@ surplus_reaches (suc more) n within =
     (λ (few : n < 10 ^ 18).
     subst (λ k. n < 10 ^ (18 + k)) (sym (surplus-few (suc more) n few)) few)
     (λ (many : 10 ^ 18 ≤ n).
-    let rest : n / 10 < 10 ^ (18 + surplus_within more (n / 10)) = surplus_reaches more (n / 10) (omega arith) in
-    let next : 10 ^ suc (18 + surplus_within more (n / 10)) ≡ 10 * 10 ^ (18 + surplus_within more (n / 10)) =
+    let rest : n / 10 < 10 ^ (18 + surplus_within more (n / 10)) =
+    surplus_reaches more (n / 10) (omega arith) in
+    let next : 10 ^ suc (18 + surplus_within more (n / 10)) ≡ 10
+    * 10 ^ (18 + surplus_within more (n / 10)) =
     power_next (18 + surplus_within more (n / 10)) in
     let far : suc (18 + surplus_within more (n / 10)) ≡ 18 + surplus_within (suc more) n =
     omega (arith, surplus-many more n many) in

@@ -73,7 +73,8 @@ by_bare negative size e some b =
     let other : (size == 0) ≡ false = grind (arith, nat_tests) in
     rw (other, b.is) refl
 
-pub sample_of_digits-zero : (negative : Bool) (e : ℤ) → sample_of_digits (spelling negative 0 e) ≡ Some (pos 0)
+pub sample_of_digits-zero : (negative : Bool) (e : ℤ)
+    → sample_of_digits (spelling negative 0 e) ≡ Some (pos 0)
 unfolding sample_of_digits
 sample_of_digits-zero negative e = refl
 
@@ -112,7 +113,8 @@ pub sample_of_digits-sample_of : (negative : Bool) (size : ℕ) (e : ℤ) → si
 sample_of_digits-sample_of negative size e few =
     ⊎_elim
     (λ (none : size ≡ 0).
-    let mantissa : signed negative size ≡ pos 0 = ap (signed negative) none ∙ signed-zero negative in
+    let mantissa : signed negative size ≡ pos 0 = ap (signed negative) none
+    ∙ signed-zero negative in
     ap (λ n. sample_of_digits (spelling negative n e)) none ∙ sample_of_digits-zero negative e
     ∙ sym (ap (λ z. sample_of z e) mantissa ∙ sample_of-zero e))
     (λ (other : size ≡ 0 → ⊥).
@@ -122,24 +124,29 @@ sample_of_digits-sample_of negative size e few =
     let shift_is : shift ≡ e +ℤ pos (1000 + b.noughts) = omega (arith, ints) in
     let whole = b.whole in
     let short = b.short in
-    let low : int_le (pos 650) shift ≡ int_le (negsuc 349) (e +ℤ pos b.noughts) = same_low (e +ℤ pos b.noughts) in
-    let high : int_le shift (pos 1350) ≡ int_le (e +ℤ pos b.noughts) (pos 350) = same_high (e +ℤ pos b.noughts) in
+    let low : int_le (pos 650) shift ≡ int_le (negsuc 349) (e +ℤ pos b.noughts) =
+    same_low (e +ℤ pos b.noughts) in
+    let high : int_le shift (pos 1350) ≡ int_le (e +ℤ pos b.noughts) (pos 350) =
+    same_high (e +ℤ pos b.noughts) in
     let fits : nat_lt b.digits (10 ^ 18) ≡ true = let less = b.few in grind (arith, nat_tests) in
     by_bare negative size e some b
     ∙ sym (ap (λ n. sample_of (signed negative n) e) (sym whole)
-    ∙ sample_of-placed negative b.digits b.noughts b.last (omega arith) (omega arith) e shift shift_is
+    ∙ sample_of-placed negative b.digits b.noughts b.last (omega arith) (omega arith) e shift
+    shift_is
     ∙ rw (fits, low, high) refl))
     (cases_eq size 0)
 
 -- an exponent that is counted exactly below 10^30 alone gives the same
-pub sample_of_digits-capped : (negative down : Bool) (size more places counted power : ℕ) → size ≤ 10 ^ 18
+pub sample_of_digits-capped : (negative down : Bool) (size more places counted power : ℕ)
+    → size ≤ 10 ^ 18
     → more ≤ 2 ^ 64 → places ≤ 2 ^ 64 → IsCapped counted power
     → sample_of_digits (spelling negative size ((signed down counted -ℤ pos places) +ℤ pos more))
     ≡ sample_of_digits (spelling negative size ((signed down power -ℤ pos places) +ℤ pos more))
 sample_of_digits-capped negative down size more places counted power few small near capped =
     ⊎_elim
     (λ (exact : counted < 10 ^ 30).
-    ap (λ n. sample_of_digits (spelling negative size ((signed down n -ℤ pos places) +ℤ pos more))) (capped.exact exact))
+    ap (λ n. sample_of_digits (spelling negative size ((signed down n -ℤ pos places) +ℤ pos more)))
+    (capped.exact exact))
     (λ (far : 10 ^ 30 ≤ counted).
     ⊎_elim
     (λ (none : size ≡ 0).
@@ -147,12 +154,15 @@ sample_of_digits-capped negative down size more places counted power few small n
     ∙ sym (sample_of_digits-zero negative ((signed down power -ℤ pos places) +ℤ pos more))))
     (λ (other : size ≡ 0 → ⊥).
     let too : 10 ^ 30 ≤ power = capped.far far in
-    sample_of_digits-far negative size _ (omega arith) few (out_of_reach down more places counted small near far)
-    ∙ sym (sample_of_digits-far negative size _ (omega arith) few (out_of_reach down more places power small near too)))
+    sample_of_digits-far negative size _ (omega arith) few
+    (out_of_reach down more places counted small near far)
+    ∙ sym (sample_of_digits-far negative size _ (omega arith) few
+    (out_of_reach down more places power small near too)))
     (cases_eq size 0))
     (cases_lt counted (10 ^ 30))
   where
-    out_of_reach : (down : Bool) (more places power : ℕ) → more ≤ 2 ^ 64 → places ≤ 2 ^ 64 → 10 ^ 30 ≤ power
+    out_of_reach : (down : Bool) (more places power : ℕ) → more ≤ 2 ^ 64 → places ≤ 2 ^ 64
+        → 10 ^ 30 ≤ power
         → (((signed down power -ℤ pos places) +ℤ pos more) <ℤ negsuc 999)
         ⊎ (pos 1000 <ℤ ((signed down power -ℤ pos places) +ℤ pos more))
     out_of_reach true more places power small near far = inl (omega (arith, ints))
@@ -165,7 +175,8 @@ pub value_of : (reader : Reader) (s : State) (size more : ℕ) → Stands reader
     ((signed reader.down reader.power -ℤ pos reader.places) +ℤ pos more))
     ≡ sample_value (spelled s)
 value_of reader s size more stands rounding few small near =
-    sample_of_digits-capped reader.negative reader.down size more reader.places reader.power s.power few small
+    sample_of_digits-capped reader.negative reader.down size more reader.places reader.power s.power
+    few small
     near stands.power
     ∙ rw (rounding.size_is, rounding.more_is, stands.negative, stands.down, stands.places) refl
 
@@ -173,4 +184,5 @@ value_of reader s size more stands rounding few small near =
 pub sample_value-sample_of : (s : Spelled)
     → sample_value s ≡ sample_of (signed s.negative (rounded s).digits) (rounded s).exponent
 sample_value-sample_of s =
-    sample_of_digits-sample_of s.negative (rounded s).digits (rounded s).exponent (nearest-surplus s.digits)
+    sample_of_digits-sample_of s.negative (rounded s).digits (rounded s).exponent
+    (nearest-surplus s.digits)

@@ -49,7 +49,8 @@ sample_form z is =
     let size_is : (form_of z).size ≡ (stripped 2001 (unsigned_abs z)).0 = ap (λ f. f.size) parts in
     let near : (stripped 2001 (unsigned_abs z)).1 < 2001 = omega (arith, within.1, shift_is) in
     let last : (form_of z).size % 10 ≡ 0 → ⊥ =
-    λ end. last_digit 2001 (unsigned_abs z) (omega arith) near (sym (ap (λ n. n % 10) size_is) ∙ end) in
+    λ end. last_digit 2001 (unsigned_abs z) (omega arith) near
+    (sym (ap (λ n. n % 10) size_is) ∙ end) in
     let other : (form_of z).size ≡ 0 → ⊥ = λ none. last (ap (λ n. n % 10) none) in
     record {
       few = within.0;
@@ -74,7 +75,8 @@ shift_is e shift place is at = omega (arith, ints)
 -- the parts of a sample are those of its form
 same_parts : (z m e : ℤ) (size shift : ℕ) → is_sample z ≡ true → m ≡ mantissa z
     → size ≡ unsigned_abs m → e ≡ exponent z → pos shift ≡ e +ℤ pos 1000
-    → (is_negative m ≡ (form_of z).negative) × (size ≡ (form_of z).size) × (shift ≡ (form_of z).shift)
+    → (is_negative m ≡ (form_of z).negative) × (size ≡ (form_of z).size)
+    × (shift ≡ (form_of z).shift)
 same_parts z m e size shift is mantissa_is size_is exponent_is at =
     let form = form_of z in (
       ap is_negative mantissa_is ∙ sign_is form.negative form.size (sample_form z is).plus,

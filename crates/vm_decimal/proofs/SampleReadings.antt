@@ -100,12 +100,14 @@ pub says : (text : List ℕ) → Says text (sample_reading text)
 unfolding sample_reading
 says text = go (number_reading text) refl
   where
-    number : (spelled : Spelled) → IsNumber text spelled → (found : Option ℤ) → sample_value spelled ≡ found
+    number : (spelled : Spelled) → IsNumber text spelled → (found : Option ℤ)
+        → sample_value spelled ≡ found
         → Says text (value_reading text (Ok found))
     number spelled is (Some z) found = (spelled, is, found)
     number spelled is None found = (spelled, is, found)
 
-    other : (at : ℕ) → number_reading text ≡ Err at → (far : Option ℕ) → wrong_among no_numbers text ≡ far
+    other : (at : ℕ) → number_reading text ≡ Err at → (far : Option ℕ)
+        → wrong_among no_numbers text ≡ far
         → Says text (no_number_reading at far)
     other at reads None found = no_number_is text found
     other at reads (Some far) found =
@@ -119,7 +121,8 @@ says text = go (number_reading text) refl
     go (Err at) reads = other at reads (wrong_among no_numbers text) refl
 
 -- a text has one reading
-pub one_reading : (text : List ℕ) (one other : Result SampleText NumFault) → Says text one → Says text other
+pub one_reading : (text : List ℕ) (one other : Result SampleText NumFault) → Says text one
+    → Says text other
     → one ≡ other
 one_reading text (Ok (Value z)) (Ok (Value y)) is is_other =
     let same : is.0 ≡ is_other.0 = one_spelling text is.0 is_other.0 is.1 is_other.1 in
@@ -132,9 +135,11 @@ one_reading text (Ok (Value z)) (Err TooWide) is is_other =
     absurd (cc (is.2, is_other.2, value))
 one_reading text (Ok (Value z)) (Err (NotANumber at)) is is_other =
     absurd (none_wrong IsSampleText text at (inl (is.0, is.1)) is_other)
-one_reading text (Ok NoNumber) (Ok (Value y)) is is_other = absurd (apart text is_other.0 is_other.1 is)
+one_reading text (Ok NoNumber) (Ok (Value y)) is is_other =
+    absurd (apart text is_other.0 is_other.1 is)
 one_reading text (Ok NoNumber) (Ok NoNumber) is is_other = refl
-one_reading text (Ok NoNumber) (Err TooWide) is is_other = absurd (apart text is_other.0 is_other.1 is)
+one_reading text (Ok NoNumber) (Err TooWide) is is_other =
+    absurd (apart text is_other.0 is_other.1 is)
 one_reading text (Ok NoNumber) (Err (NotANumber at)) is is_other =
     absurd (none_wrong IsSampleText text at (inr is) is_other)
 one_reading text (Err TooWide) (Ok (Value y)) is is_other =
@@ -164,4 +169,5 @@ answers text answer = (
 
 -- there is one reader
 pub one_reader : (f : List ℕ → Result SampleText NumFault) → IsReader f → f ≡ sample_reading
-one_reader f is = fun_ext (λ text. one_reading text (f text) (sample_reading text) (is text) (says text))
+one_reader f is =
+    fun_ext (λ text. one_reading text (f text) (sample_reading text) (is text) (says text))

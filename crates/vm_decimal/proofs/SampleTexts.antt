@@ -21,7 +21,8 @@ use Rattle.vm_decimal.proofs.SampleReadings.{answers}
 use Rattle.vm_decimal.proofs.Spellings.{number_read}
 
 -- a fault's place lies in the text or at its end
-pub wrong_within : (text : List ℕ) (at : ℕ) → sample_reading text ≡ Err (NotANumber at) → at ≤ length text
+pub wrong_within : (text : List ℕ) (at : ℕ) → sample_reading text ≡ Err (NotANumber at)
+    → at ≤ length text
 wrong_within text at is = ((answers text (Err (NotANumber at))).0 is).within
 
 -- a text that is one has no such fault
@@ -46,7 +47,8 @@ not_empty is =
         → IsOneOf words [] → ⊥
     no_empty_word [] some is = absurd is
     no_empty_word (word ∷ words) some is =
-        let both = and_true (nat_lt 0 (length word)) (list_all (λ w. nat_lt 0 (length w)) words) some in
+        let both =
+        and_true (nat_lt 0 (length word)) (list_all (λ w. nat_lt 0 (length w)) words) some in
         ⊎_elim
         (λ first.
         let none : length word ≡ 0 = ap length (sym first) in
@@ -79,7 +81,8 @@ read_no_blank : (s t : State) (text : List ℕ) → run step s text ≡ Some t �
 read_no_blank s t [] reads = tt
 read_no_blank s t (b ∷ bs) reads = go (step s b) refl reads (λ u. read_no_blank u t bs)
   where
-    go : (found : Option State) → step s b ≡ found → option_and_then (λ u. run step u bs) found ≡ Some t
+    go : (found : Option State) → step s b ≡ found
+        → option_and_then (λ u. run step u bs) found ≡ Some t
         → ((u : State) → run step u bs ≡ Some t → HasNoBlank bs) → HasNoBlank (b ∷ bs)
     go None found reads rest = absurd (cc reads)
     go (Some u) found reads rest =
@@ -93,7 +96,8 @@ no_blank_before (b ∷ front) more all = (all.0, no_blank_before front more all.
 number_no_blank : (text : List ℕ) (spelled : Spelled) → IsNumber text spelled → HasNoBlank text
 number_no_blank text spelled is = go (run step start text) refl (number_read text spelled is)
   where
-    go : (found : Option State) → run step start text ≡ found → option_and_then final found ≡ Some spelled
+    go : (found : Option State) → run step start text ≡ found
+        → option_and_then final found ≡ Some spelled
         → HasNoBlank text
     go None found reads = absurd (cc reads)
     go (Some s) found reads = read_no_blank start s text found
@@ -119,7 +123,8 @@ word_no_blank (w ∷ word) (b ∷ bs) all is =
       word_no_blank word bs both.1 rest,
     )
 
-words_no_blank : (words : List (List ℕ)) (text : List ℕ) → list_all (list_all is_no_blank) words ≡ true
+words_no_blank : (words : List (List ℕ)) (text : List ℕ)
+    → list_all (list_all is_no_blank) words ≡ true
     → IsOneOf words text → HasNoBlank text
 words_no_blank [] text all is = absurd is
 words_no_blank (word ∷ words) text all is =

@@ -38,10 +38,12 @@ pub factor_off : (b whole size count : ℕ) → whole ≡ size * b ^ count → s
 factor_off b whole size count is exact =
     let power : b * b ^ count ≡ b ^ suc count = mul_comm b (b ^ count) ∙ sym (pow-suc b count) in
     rw add-one
-    (is ∙ ap (λ n. n * b ^ count) exact ∙ mul_assoc (size / b) b (b ^ count) ∙ ap (λ n. size / b * n) power)
+    (is ∙ ap (λ n. n * b ^ count) exact ∙ mul_assoc (size / b) b (b ^ count)
+    ∙ ap (λ n. size / b * n) power)
 
 -- a size of 128 bits has fewer than 128 twos
-pub few_twos : (whole size twos : ℕ) → whole ≡ size * 2 ^ twos → 0 < size → whole < 2 ^ 128 → twos < 128
+pub few_twos : (whole size twos : ℕ) → whole ≡ size * 2 ^ twos → 0 < size → whole < 2 ^ 128
+    → twos < 128
 few_twos whole size twos is some fits =
     ⊎_elim
     (λ few. few)
@@ -60,18 +62,21 @@ rise_by_ten n (x ∷ xs) = (x == n) && rise_by_ten (n * 10) xs
 same_number : (x n : ℕ) → (x == n) ≡ true → x ≡ n
 same_number x n is = grind (arith, nat_tests)
 
-power_at : (n k : ℕ) (xs : List ℕ) → rise_by_ten n xs ≡ true → k < length xs → get_or xs k 0 ≡ n * 10 ^ k
+power_at : (n k : ℕ) (xs : List ℕ) → rise_by_ten n xs ≡ true → k < length xs
+    → get_or xs k 0 ≡ n * 10 ^ k
 power_at n k [] is here = absurd (omega arith)
 power_at n zero (x ∷ xs) is here =
     let same = same_number x n (and_parts (x == n) (rise_by_ten (n * 10) xs) is).0 in
     omega arith
 power_at n (suc k) (x ∷ xs) is here =
-    let rest = power_at (n * 10) k xs (and_parts (x == n) (rise_by_ten (n * 10) xs) is).1 (omega arith) in
+    let rest =
+    power_at (n * 10) k xs (and_parts (x == n) (rise_by_ten (n * 10) xs) is).1 (omega arith) in
     rest ∙ omega (arith, ap (λ p. n * p) (pow-suc 10 k))
 
 abbrev powers : List ℕ
 powers =
-    1 ∷ 10 ∷ 100 ∷ 1000 ∷ 10000 ∷ 100000 ∷ 1000000 ∷ 10000000 ∷ 100000000 ∷ 1000000000 ∷ 10000000000 ∷
+    1 ∷ 10 ∷ 100 ∷ 1000 ∷ 10000 ∷ 100000 ∷ 1000000 ∷ 10000000 ∷ 100000000 ∷ 1000000000 ∷ 10000000000
+    ∷
     100000000000 ∷ 1000000000000 ∷ 10000000000000 ∷ 100000000000000 ∷ 1000000000000000 ∷
     10000000000000000 ∷ 100000000000000000 ∷ 1000000000000000000 ∷ 10000000000000000000 ∷ []
 

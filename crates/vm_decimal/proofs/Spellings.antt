@@ -146,7 +146,8 @@ module _ (n : Bool) where
       ∙ marked_run pointed d k e.letter (e.sign ++ e.digits) e.a_letter
       ∙ signed_power d k e.negative e.sign e.digits e.a_sign e.all_digits e.a_digit in
       ap (option_and_then final) there
-      ∙ ap (λ p. Some (record { negative = n; digits = d; exponent = p -ℤ pos k })) (sym e.power_is))
+      ∙ ap (λ p. Some (record { negative = n; digits = d; exponent = p -ℤ pos k }))
+      (sym e.power_is))
       is
 
   -- a point and digits after an optional sign
@@ -156,10 +157,12 @@ module _ (n : Bool) where
   bare_run sign [] rest all some = absurd (omega arith)
   bare_run true (b ∷ bs) rest all some =
       rw (symbol-digit b all.0) (fraction_run (0 * 10 + digit_value b) 1 bs rest all.1
-      ∙ ap (λ p. run step (at_phase Fraction n (digits_value 10 (b ∷ bs)) p false 0) rest) (one-add (length bs)))
+      ∙ ap (λ p. run step (at_phase Fraction n (digits_value 10 (b ∷ bs)) p false 0) rest)
+      (one-add (length bs)))
   bare_run false (b ∷ bs) rest all some =
       rw (symbol-digit b all.0) (fraction_run (0 * 10 + digit_value b) 1 bs rest all.1
-      ∙ ap (λ p. run step (at_phase Fraction n (digits_value 10 (b ∷ bs)) p false 0) rest) (one-add (length bs)))
+      ∙ ap (λ p. run step (at_phase Fraction n (digits_value 10 (b ∷ bs)) p false 0) rest)
+      (one-add (length bs)))
 
   -- digits after an optional sign
   first_run : (sign : Bool) (whole rest : List ℕ) → IsDigits whole → 0 < length whole
@@ -180,7 +183,8 @@ module _ (n : Bool) where
   pointed_run : (sign : Bool) (whole fraction rest : List ℕ) → IsDigits whole → IsDigits fraction
       → 0 < length whole + length fraction
       → run step (at_phase (opened sign) n 0 0 false 0) (whole ++ (46 ∷ (fraction ++ rest)))
-      ≡ run step (at_phase Fraction n (digits_value 10 (whole ++ fraction)) (length fraction) false 0) rest
+      ≡ run step
+      (at_phase Fraction n (digits_value 10 (whole ++ fraction)) (length fraction) false 0) rest
   pointed_run sign [] fraction rest all more some = bare_run sign fraction rest more (omega arith)
   pointed_run sign (b ∷ bs) fraction rest all more some =
       let whole : List ℕ = b ∷ bs in
@@ -192,7 +196,8 @@ module _ (n : Bool) where
       ∙ ap (λ v. run step (at_phase Fraction n v (length fraction) false 0) rest)
       (sym (value_append 0 whole fraction))
 
-  mantissa_run : (sign : Bool) (text rest : List ℕ) (digits places : ℕ) → IsMantissa text digits places
+  mantissa_run : (sign : Bool) (text rest : List ℕ) (digits places : ℕ)
+      → IsMantissa text digits places
       → Reached sign digits places text rest
   mantissa_run sign text rest digits places m =
       ⊎_elim
@@ -208,8 +213,10 @@ module _ (n : Bool) where
       (λ none.
       let fraction : length m.fraction ≡ 0 = ap length none.1 in
       let bare : text ≡ m.whole = m.parts
-      ∙ ap (λ p. m.whole ++ (p ++ m.fraction)) none.0 ∙ ap (λ f. m.whole ++ f) none.1 ∙ append-nil m.whole in
-      let all : m.whole ++ m.fraction ≡ m.whole = ap (λ f. m.whole ++ f) none.1 ∙ append-nil m.whole in
+      ∙ ap (λ p. m.whole ++ (p ++ m.fraction)) none.0 ∙ ap (λ f. m.whole ++ f) none.1
+      ∙ append-nil m.whole in
+      let all : m.whole ++ m.fraction ≡ m.whole = ap (λ f. m.whole ++ f) none.1
+      ∙ append-nil m.whole in
       record {
         pointed = false;
         there = rw (m.digits_are, m.places_are, bare, all, fraction)
@@ -218,7 +225,9 @@ module _ (n : Bool) where
       m.one_point
 
 sign_run : (negative : Bool) (sign : List ℕ) → IsSign negative sign
-    → (signs : Bool) × ((rest : List ℕ) → run step start (sign ++ rest) ≡ run step (at_phase (opened signs) negative 0 0 false 0) rest)
+    → (signs : Bool)
+    × ((rest : List ℕ)
+    → run step start (sign ++ rest) ≡ run step (at_phase (opened signs) negative 0 0 false 0) rest)
 sign_run true sign is = (true, λ rest. rw is refl)
 sign_run false sign is =
     ⊎_elim
@@ -231,10 +240,16 @@ pub number_read : (text : List ℕ) (spelled : Spelled) → IsNumber text spelle
     → result step final start text ≡ Some spelled
 number_read text spelled is =
     let signed = sign_run spelled.negative is.sign is.a_sign in
-    let mantissa = mantissa_run spelled.negative signed.0 is.mantissa is.exponent spelled.digits is.places is.a_mantissa in
+    let mantissa =
+    mantissa_run spelled.negative signed.0 is.mantissa is.exponent spelled.digits is.places
+    is.a_mantissa in
     let whole : run step start text
-    ≡ run step (at_phase (closed mantissa.pointed) spelled.negative spelled.digits is.places false 0) is.exponent =
+    ≡ run step
+    (at_phase (closed mantissa.pointed) spelled.negative spelled.digits is.places false 0)
+    is.exponent =
     ap (run step start) is.parts ∙ signed.1 (is.mantissa ++ is.exponent) ∙ mantissa.there in
     ap (option_and_then final) whole
-    ∙ exponent_read spelled.negative mantissa.pointed spelled.digits is.places is.exponent is.power is.an_exponent
-    ∙ ap (λ e. Some (record { negative = spelled.negative; digits = spelled.digits; exponent = e })) (sym is.exponent_is)
+    ∙ exponent_read spelled.negative mantissa.pointed spelled.digits is.places is.exponent is.power
+    is.an_exponent
+    ∙ ap (λ e. Some (record { negative = spelled.negative; digits = spelled.digits; exponent = e }))
+    (sym is.exponent_is)

@@ -55,8 +55,11 @@ below_zero n =
     let rest : n % ones < ones = omega (arith, ones_pos) in
     ⊎_elim
     (λ (none : n % ones ≡ 0).
-    let whole : cut true n ones * ones ≡ n / ones * ones = ap (λ k. k * ones) (cut-exact true n ones none) in
-    let left = int_rem_euclid_is (neg_ℤ (pos n)) (pos ones) ones (n / ones) 0 ones_pos refl (omega (arith, ints)) in
+    let whole : cut true n ones * ones ≡ n / ones * ones =
+    ap (λ k. k * ones) (cut-exact true n ones none) in
+    let left =
+    int_rem_euclid_is (neg_ℤ (pos n)) (pos ones) ones (n / ones) 0 ones_pos refl
+    (omega (arith, ints)) in
     let nought = zero-mod ones in
     omega (arith, ints, left, nought, whole))
     (λ (some : n % ones ≡ 0 → ⊥).
@@ -86,7 +89,8 @@ pub ceil_signed : (a : Bool) (n : ℕ) → ceil_of (signed a n) ≡ signed a (cu
 unfolding ceil_of
 ceil_signed a n =
     ap (λ z. neg_ℤ (floor_of z)) (opposite a n) ∙ ap neg_ℤ (floor_signed (not a) n)
-    ∙ opposite (not a) (cut (not a) n ones * ones) ∙ ap (λ s. signed s (cut (not a) n ones * ones)) (twice a)
+    ∙ opposite (not a) (cut (not a) n ones * ones)
+    ∙ ap (λ s. signed s (cut (not a) n ones * ones)) (twice a)
   where
     twice : (a : Bool) → not (not a) ≡ a
     twice true = refl
@@ -121,11 +125,14 @@ ceil_whole a x i z is high =
 pub cut_places : (away : Bool) (x i places q : ℕ) → places ≡ 1000 - i → i < 1000
     → q ≡ cut away x (10 ^ places) → q ≡ cut away (x * 10 ^ i) ones
 cut_places away x i places q split low found =
-    let all : ones ≡ 10 ^ places * 10 ^ i = ones_is (places + i) (omega arith) ∙ pow-add 10 places i in
-    found ∙ sym (ap (cut away (x * 10 ^ i)) all ∙ cut_times away x (10 ^ places) (10 ^ i) (ten_pos i))
+    let all : ones ≡ 10 ^ places * 10 ^ i = ones_is (places + i) (omega arith)
+    ∙ pow-add 10 places i in
+    found ∙ sym
+    (ap (cut away (x * 10 ^ i)) all ∙ cut_times away x (10 ^ places) (10 ^ i) (ten_pos i))
 
 -- a whole number by its size without zeros
-pub whole_shift : (a : Bool) (size bare noughts shift : ℕ) → size ≡ bare * 10 ^ noughts → shift ≡ 1000 + noughts
+pub whole_shift : (a : Bool) (size bare noughts shift : ℕ) → size ≡ bare * 10 ^ noughts
+    → shift ≡ 1000 + noughts
     → number a bare shift ≡ signed a (size * ones)
 whole_shift a size bare noughts shift whole is =
     ap (signed a)

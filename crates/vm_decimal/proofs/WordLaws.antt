@@ -49,7 +49,8 @@ no_front word (b ∷ text) low short wrong = record {
 word_or_leaves : (word text : List ℕ) → IsLow word → IsOrLeaves word text
 word_or_leaves [] [] low = inl (refl, refl, refl)
 word_or_leaves [] (b ∷ text) low =
-    inr (no_front [] (b ∷ text) low (λ none. absurd (cc none)) (λ c more goes is. absurd (cc goes.1)))
+    inr (no_front [] (b ∷ text) low (λ none. absurd (cc none))
+    (λ c more goes is. absurd (cc goes.1)))
 word_or_leaves (w ∷ word) [] low =
     inr (no_front (w ∷ word) [] low (λ _ none. absurd (cc none)) (λ c more goes is. absurd (cc is)))
 word_or_leaves (w ∷ word) (b ∷ text) low =
@@ -66,7 +67,8 @@ word_or_leaves (w ∷ word) (b ∷ text) low =
         inl (whole, far ∙ ap suc is.1, far ∙ ap suc is.2))
         (λ leaves.
         let moved : FirstWrong (IsWord (w ∷ word)) (b ∷ text) (1 + common word text) =
-        FirstWrong-append (b ∷ []) (λ more is. (cc is)) (λ more is. (cc (same, is))) text (common word text) leaves in
+        FirstWrong-append (b ∷ []) (λ more is. (cc is)) (λ more is. (cc (same, is))) text
+        (common word text) leaves in
         let place : 1 + common word text ≡ common (w ∷ word) (b ∷ text) = omega arith in
         inr (subst (FirstWrong (IsWord (w ∷ word)) (b ∷ text)) place moved))
         rest
@@ -78,7 +80,8 @@ word_or_leaves (w ∷ word) (b ∷ text) low =
         (λ c more goes is. other (cc (goes.1, is))) in
         inr (subst (FirstWrong (IsWord (w ∷ word)) (b ∷ text)) (sym none) here)
 
-whole_common : (word text : List ℕ) → common word text ≡ length word → common word text ≡ length text
+whole_common : (word text : List ℕ) → common word text ≡ length word
+    → common word text ≡ length text
     → IsWord word text
 whole_common [] [] all all_text = refl
 whole_common [] (b ∷ text) all all_text = absurd (omega arith)
@@ -108,7 +111,8 @@ word_is : (word text : List ℕ) → IsLow word → wrong_word word text ≡ Non
 word_is word text low none =
     go (common word text == length word && common word text == length text) refl none
   where
-    go : (whole : Bool) → (common word text == length word && common word text == length text) ≡ whole
+    go : (whole : Bool)
+        → (common word text == length word && common word text == length text) ≡ whole
         → (if whole then None else Some (common word text)) ≡ None → IsWord word text
     go true whole none =
         let both = both_lengths (common word text) (length word) (length text) whole in
@@ -120,8 +124,10 @@ word_wrong : (word text : List ℕ) (at : ℕ) → IsLow word → wrong_word wor
 word_wrong word text at low some =
     go (common word text == length word && common word text == length text) refl some
   where
-    go : (whole : Bool) → (common word text == length word && common word text == length text) ≡ whole
-        → (if whole then None else Some (common word text)) ≡ Some at → FirstWrong (IsWord word) text at
+    go : (whole : Bool)
+        → (common word text == length word && common word text == length text) ≡ whole
+        → (if whole then None else Some (common word text)) ≡ Some at
+        → FirstWrong (IsWord word) text at
     go true whole some = absurd (cc some)
     go false part some =
         let place : common word text ≡ at = cc some in
@@ -129,7 +135,8 @@ word_wrong word text at low some =
         (λ is.
         let front = is.1 in
         let end = is.2 in
-        let yes : (common word text == length word && common word text == length text) ≡ true = grind (arith, nat_tests) in
+        let yes : (common word text == length word && common word text == length text) ≡ true =
+        grind (arith, nat_tests) in
         absurd (cc (yes, part)))
         (λ leaves. subst (FirstWrong (IsWord word) text) place leaves)
         (word_or_leaves word text low)
@@ -151,13 +158,15 @@ AllLow = AllByRecursion IsLow
 abbrev with_more : Option ℕ → Option ℕ → Option ℕ
 with_more first others = option_and_then (λ at. option_map (λ far. max at far) others) first
 
-pub one_of_is : (words : List (List ℕ)) (text : List ℕ) → AllLow words → wrong_among words text ≡ None
+pub one_of_is : (words : List (List ℕ)) (text : List ℕ) → AllLow words
+    → wrong_among words text ≡ None
     → IsOneOf words text
 one_of_is [] text low none = absurd (cc none)
 one_of_is (word ∷ words) text low none =
     go (wrong_word word text) (wrong_among words text) refl (one_of_is words text low.1) none
   where
-    go : (first others : Option ℕ) → wrong_word word text ≡ first → (others ≡ None → IsOneOf words text)
+    go : (first others : Option ℕ) → wrong_word word text ≡ first
+        → (others ≡ None → IsOneOf words text)
         → with_more first others ≡ None → IsOneOf (word ∷ words) text
     go None others is more none = inl (word_is word text low.0 is)
     go (Some at) None is more none = inr (more refl)

@@ -39,7 +39,8 @@ nearest_quotient a b =
 -- the dividend as it is written with so many zeros more, and with as many as the divisor's last
 -- digit asks for besides
 abbrev pub scaled_dividend : ℕ → ℤ → ℤ → ℕ
-scaled_dividend noughts a b = (form_of a).size * 10 ^ ((form_of a).shift + noughts - (form_of b).shift)
+scaled_dividend noughts a b =
+    (form_of a).size * 10 ^ ((form_of a).shift + noughts - (form_of b).shift)
 
 -- out of range where the scaled dividend has more than 38 digits
 abbrev pub if_scaled : ℕ → ℤ → ℤ → Option ℤ → Option ℤ

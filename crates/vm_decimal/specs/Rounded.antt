@@ -20,7 +20,11 @@ surplus n = surplus_within n n
 abbrev pub rounded : Spelled → Spelled
 rounded s =
     let more = surplus s.digits in
-    record { negative = s.negative; digits = nearest s.digits (10 ^ more); exponent = s.exponent +ℤ pos more }
+    record {
+      negative = s.negative;
+      digits = nearest s.digits (10 ^ more);
+      exponent = s.exponent +ℤ pos more;
+    }
 
 -- the number of at most 18 digits, or of 10^18, none where its exponent leaves -350 to 350 once no
 -- zero stands at the end of its digits

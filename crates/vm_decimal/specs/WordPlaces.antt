@@ -20,4 +20,5 @@ wrong_word word text =
 abbrev pub wrong_among : List (List ℕ) → List ℕ → Option ℕ
 wrong_among [] text = Some 0
 wrong_among (word ∷ words) text =
-    option_and_then (λ at. option_map (λ far. max at far) (wrong_among words text)) (wrong_word word text)
+    option_and_then (λ at. option_map (λ far. max at far) (wrong_among words text))
+    (wrong_word word text)

@@ -57,9 +57,17 @@ impl Model for Dec {
 
     ghost invariant = { λ d. IsDecForm (is_negative d.mantissa) (unsigned_abs d.mantissa) d.shift };
 
-    ghost inverse = { λ z. record { mantissa = signed (form_of z).negative (form_of z).size; shift = (form_of z).shift } };
+    ghost inverse = { λ z. record {
+      mantissa = signed (form_of z).negative (form_of z).size;
+      shift = (form_of z).shift;
+    } };
 
-    ghost inverse_ok = { λ d h. Prim.rw (form_of-number (is_negative d.mantissa) (unsigned_abs d.mantissa) d.shift h.short h.plus h.here h.high, signed-parts d.mantissa) };
+    ghost inverse_ok = { λ d h.
+        Prim.rw (
+          form_of-number (is_negative d.mantissa) (unsigned_abs d.mantissa) d.shift h.short
+              h.plus h.here h.high,
+          signed-parts d.mantissa,
+        ) };
 }
 
 impl Dec {

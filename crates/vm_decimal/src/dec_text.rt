@@ -27,7 +27,8 @@ pub fn read(text: &[u8]) -> Result<Dec, NumFault>
     // What the text is where each answer comes, and nowhere else.
     ensures value { (z : ℤ) → (result ≡ Ok z) ↔ SaysNumber text.now z }
     ensures too_wide { (result ≡ Err NumFault.TooWide) ↔ IsBeyond text.now }
-    ensures not_a_number { (at : ℕ) → (result ≡ Err (NumFault.NotANumber at)) ↔ FirstWrong IsAnyNumber text.now at }
+    ensures not_a_number { (at : ℕ)
+        → (result ≡ Err (NumFault.NotANumber at)) ↔ FirstWrong IsAnyNumber text.now at }
 
     // What was printed is read as the same number.
     ensures printed { (z : ℤ) → IsTrue (is_dec z) → text.now ≡ number_text z → result ≡ Ok z }
@@ -112,7 +113,8 @@ fn digits_of(reader: &Reader, text: &[u8]) -> Option<(u128, u64)>
 /// The exponent of the last digit before so many zeros.
 fn exponent_behind(reader: &Reader, noughts: u64) -> i128
     requires { reader.now.power < 10 ^ 32 }
-    ensures value { result ≡ (signed reader.now.down reader.now.power -ℤ pos reader.now.places) +ℤ pos noughts }
+    ensures value { result
+        ≡ (signed reader.now.down reader.now.power -ℤ pos reader.now.places) +ℤ pos noughts }
     ensures near { reader.now.places < 2 ^ 64 }
 {
     last_exponent(reader.down, reader.power, reader.places) + i128::from(noughts)

@@ -86,7 +86,8 @@ fn rest(one: Parts, two: Parts) -> Option<Dec>
     requires one { IsDecForm one.negative one.size one.shift }
     requires two { IsDecForm two.negative two.size two.shift }
     requires some { 0 < two.size }
-    ensures { result ≡ if_scaled 0 (value one) (value two) (in_range (int_rem (value one) (value two))) }
+    ensures { result
+        ≡ if_scaled 0 (value one) (value two) (in_range (int_rem (value one) (value two))) }
 {
     let Some(both) = align(scaled(one, 0), scaled(two, 0)) else {
         return None;

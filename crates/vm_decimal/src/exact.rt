@@ -22,7 +22,8 @@ pub(crate) struct Exact {
 
 /// The digits of the number that the text is.
 pub(crate) fn exact_digits(text: &[u8]) -> Exact
-    ensures value { (spelled : Spelled) → number_reading text.now ≡ Ok spelled → IsExact result spelled.digits }
+    ensures value { (spelled : Spelled) → number_reading text.now ≡ Ok spelled
+        → IsExact result spelled.digits }
     ensures few { result.size < 10 ^ 38 }
     ensures short { result.noughts ≤ length text.now }
 {
@@ -49,7 +50,8 @@ fn with_symbol(digits: Exact, phase: Phase, symbol: Symbol) -> Exact
     requires small { IsSmall symbol }
     requires room { digits.noughts + 1 < 2 ^ 64 }
     requires few { digits.size < 10 ^ 38 }
-    ensures value { (s : State) → IsExact digits s.digits → IsExact result (taken s phase symbol).digits }
+    ensures value { (s : State) → IsExact digits s.digits
+        → IsExact result (taken s phase symbol).digits }
     ensures phase { (s : State) → phase ≡ (taken s phase symbol).phase }
     ensures few { result.size < 10 ^ 38 }
     ensures short { result.noughts ≤ digits.noughts + 1 }

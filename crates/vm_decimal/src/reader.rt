@@ -138,7 +138,8 @@ pub(crate) fn last_exponent(down: bool, power: u128, places: u64) -> i128
 /// `size * 10^exponent`, or that below zero, none where its exponent is out of range.
 fn sample_at(negative: bool, size: u64, exponent: i128) -> Option<Sample>
     requires { size ≤ 10 ^ 18 }
-    ensures { result ≡ sample_of_digits (record { negative = negative; digits = size; exponent = exponent }) }
+    ensures { result
+        ≡ sample_of_digits (record { negative = negative; digits = size; exponent = exponent }) }
 {
     if size == 0 {
         return Some(Sample::ZERO);

@@ -39,7 +39,8 @@ impl Dec {
 fn whole_part(parts: Parts, away: bool) -> Dec
     requires few { parts.size < 10 ^ 38 }
     requires low { parts.shift < 1000 }
-    ensures { result ≡ signed parts.negative (cut_of away (parts.size * 10 ^ parts.shift) ones * ones) }
+    ensures { result
+        ≡ signed parts.negative (cut_of away (parts.size * 10 ^ parts.shift) ones * ones) }
 {
     whole_number(parts.negative, cut(parts.size, ONES - parts.shift, away))
 }

@@ -13,8 +13,12 @@ use Rattle.vm_dedup.specs.Intervals.{last_of_intervals}
 
 -- a quotient rounded up, of a multiple and of what lies above one
 rounds_up : (d q r : ℕ) → r < d → (d * q + r + d - 1) / d ≡ q + min 1 r
-rounds_up d q zero some = ap (λ n. n / d) (let e : d * q + 0 + d - 1 ≡ q * d + (d - 1) = omega arith in e) ∙ div-mul-add q d (d - 1) (omega arith) ∙ omega arith
-rounds_up d q (suc r) some = ap (λ n. n / d) (let e : d * q + suc r + d - 1 ≡ (q + 1) * d + r = omega arith in e) ∙ div-mul-add (q + 1) d r (omega arith) ∙ omega arith
+rounds_up d q zero some =
+    ap (λ n. n / d) (let e : d * q + 0 + d - 1 ≡ q * d + (d - 1) = omega arith in e)
+    ∙ div-mul-add q d (d - 1) (omega arith) ∙ omega arith
+rounds_up d q (suc r) some =
+    ap (λ n. n / d) (let e : d * q + suc r + d - 1 ≡ (q + 1) * d + r = omega arith in e)
+    ∙ div-mul-add (q + 1) d r (omega arith) ∙ omega arith
 
 -- the end of an interval is the quotient rounded up
 pub interval_rounds_up : (d time : ℕ) → 0 < d → interval_of d time ≡ time / d + min 1 (time % d)
@@ -29,12 +33,15 @@ interval_of-le d t u some up =
     (omega (arith, div-mul-le_self (t + d - 1) d))
 
 -- a time after one of another interval is of another interval too
-later_too : (d t u v : ℕ) → t ≤ u → u ≤ v → (nat_lt 0 d && interval_of d t == interval_of d u) ≡ false
+later_too : (d t u v : ℕ) → t ≤ u → u ≤ v
+    → (nat_lt 0 d && interval_of d t == interval_of d u) ≡ false
     → (nat_lt 0 d && interval_of d t == interval_of d v) ≡ false
 later_too zero t u v first next other = refl
 later_too (suc e) t u v first next other =
-    let low : interval_of (suc e) t ≤ interval_of (suc e) u = interval_of-le (suc e) t u (omega arith) first in
-    let high : interval_of (suc e) u ≤ interval_of (suc e) v = interval_of-le (suc e) u v (omega arith) next in
+    let low : interval_of (suc e) t ≤ interval_of (suc e) u =
+    interval_of-le (suc e) t u (omega arith) first in
+    let high : interval_of (suc e) u ≤ interval_of (suc e) v =
+    interval_of-le (suc e) u v (omega arith) next in
     grind (arith, nat_tests)
 
 -- samples in order have times in order

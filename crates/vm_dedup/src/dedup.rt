@@ -44,7 +44,8 @@ impl Dedup {
     /// put before what comes out of the held sample and of any that follow, is the same before the
     /// call and after it.
     pub fn push(&mut self, sample: Stamped) -> Option<Stamped>
-        ensures thinned { (more : List Stamped) → thinned self.old.interval (self.old.held ++ sample ∷ more)
+        ensures thinned { (more : List Stamped)
+            → thinned self.old.interval (self.old.held ++ sample ∷ more)
             ≡ option_to_list result ++ thinned self.old.interval (self.new.held ++ more) }
         ensures interval { self.new.interval ≡ self.old.interval }
     {
@@ -69,7 +70,8 @@ impl Dedup {
 /// Whether two times fall into one interval; at an interval of 0 ms no two do.
 #[tactic(auto, using(crate::proofs::Intervals::interval_rounds_up))]
 fn is_one_interval(interval: u64, earlier: u64, later: u64) -> bool
-    ensures { result ≡ (nat_lt 0 interval && interval_of interval earlier == interval_of interval later) }
+    ensures { result
+        ≡ (nat_lt 0 interval && interval_of interval earlier == interval_of interval later) }
 {
     interval > 0 && earlier.div_ceil(interval) == later.div_ceil(interval)
 }

@@ -35,7 +35,8 @@ module _ {X : Type 0} (le : X → X → Bool) (t : X → Bool) where
   any_sorted [] = refl
   any_sorted (x ∷ xs) = any_put_in x (sorted le xs) ∙ ap (λ b. t x || b) (any_sorted xs)
 
-module _ {X : Type 0} (eq : X → X → Bool) (decides : (a b : X) → Decides (eq a b) (a ≡ b)) (t : X → Bool) where
+module _ {X : Type 0} (eq : X → X → Bool) (decides : (a b : X) → Decides (eq a b) (a ≡ b))
+    (t : X → Bool) where
   any_deduped : (k : X) (xs : List X) → list_any t (dedup_from eq k xs) ≡ (t k || list_any t xs)
   any_deduped k [] = refl
   any_deduped k (x ∷ xs) = go (eq x k) refl (any_deduped k xs) (any_deduped x xs)
@@ -44,10 +45,13 @@ module _ {X : Type 0} (eq : X → X → Bool) (decides : (a b : X) → Decides (
       once true b = refl
       once false b = refl
 
-      go : (b : Bool) → eq x k ≡ b → list_any t (dedup_from eq k xs) ≡ (t k || list_any t xs) → list_any t (dedup_from eq x xs) ≡ (t x || list_any t xs)
-          → list_any t (cond b (dedup_from eq k xs) (k ∷ dedup_from eq x xs)) ≡ (t k || (t x || list_any t xs))
+      go : (b : Bool) → eq x k ≡ b → list_any t (dedup_from eq k xs) ≡ (t k || list_any t xs)
+          → list_any t (dedup_from eq x xs) ≡ (t x || list_any t xs)
+          → list_any t (cond b (dedup_from eq k xs) (k ∷ dedup_from eq x xs))
+          ≡ (t k || (t x || list_any t xs))
       go true same less more =
-          less ∙ once (t k) (list_any t xs) ∙ ap (λ y. t k || (t y || list_any t xs)) (sym ((decides x k).0 same))
+          less ∙ once (t k) (list_any t xs)
+          ∙ ap (λ y. t k || (t y || list_any t xs)) (sym ((decides x k).0 same))
       go false apart less more = ap (λ b. t k || b) more
 
   pub any_dedup : (xs : List X) → list_any t (dedup eq xs) ≡ list_any t xs
@@ -67,10 +71,12 @@ module _ {X : Type 0} (eq : X → X → Bool) where
       go true more = more
       go false more = (dedup_from eq x xs, refl)
 
-  pub all_deduped : (P : X → Type 0) (k : X) (xs : List X) → P k → AllByRecursion P xs → AllByRecursion P (dedup_from eq k xs)
+  pub all_deduped : (P : X → Type 0) (k : X) (xs : List X) → P k → AllByRecursion P xs
+      → AllByRecursion P (dedup_from eq k xs)
   all_deduped P k [] first all = (first, tt)
   all_deduped P k (x ∷ xs) first all =
-      elim (eq x k) as (λ b. AllByRecursion P (cond b (dedup_from eq k xs) (k ∷ dedup_from eq x xs)))
+      elim (eq x k) as (λ b.
+      AllByRecursion P (cond b (dedup_from eq k xs) (k ∷ dedup_from eq x xs)))
       [ true ↦ all_deduped P k xs first all.1 | false ↦ (first, all_deduped P x xs all.0 all.1) ]
 
   -- whether an item is the last one
@@ -78,34 +84,46 @@ module _ {X : Type 0} (eq : X → X → Bool) where
   is_end last x = option_map_or (eq x) last false
 
   more_from : (k : X) (xs : List X) (x : X)
-      → dedup_from eq k (xs ++ x ∷ []) ≡ cond (is_end (last_of (dedup_from eq k xs)) x) (dedup_from eq k xs) (dedup_from eq k xs ++ x ∷ [])
+      → dedup_from eq k (xs ++ x ∷ [])
+      ≡ cond (is_end (last_of (dedup_from eq k xs)) x) (dedup_from eq k xs)
+      (dedup_from eq k xs ++ x ∷ [])
   more_from k [] x = refl
   more_from k (y ∷ ys) x = go (eq y k) (more_from k ys x) (more_from y ys x) (begun y ys)
     where
-      front : (rest : List X) (b : Bool) → (k ∷ cond b (y ∷ rest) ((y ∷ rest) ++ x ∷ [])) ≡ cond b (k ∷ y ∷ rest) ((k ∷ y ∷ rest) ++ x ∷ [])
+      front : (rest : List X) (b : Bool)
+          → (k ∷ cond b (y ∷ rest) ((y ∷ rest) ++ x ∷ []))
+          ≡ cond b (k ∷ y ∷ rest) ((k ∷ y ∷ rest) ++ x ∷ [])
       front rest true = refl
       front rest false = refl
 
       go : (b : Bool)
-          → dedup_from eq k (ys ++ x ∷ []) ≡ cond (is_end (last_of (dedup_from eq k ys)) x) (dedup_from eq k ys) (dedup_from eq k ys ++ x ∷ [])
-          → dedup_from eq y (ys ++ x ∷ []) ≡ cond (is_end (last_of (dedup_from eq y ys)) x) (dedup_from eq y ys) (dedup_from eq y ys ++ x ∷ [])
+          → dedup_from eq k (ys ++ x ∷ [])
+          ≡ cond (is_end (last_of (dedup_from eq k ys)) x) (dedup_from eq k ys)
+          (dedup_from eq k ys ++ x ∷ [])
+          → dedup_from eq y (ys ++ x ∷ [])
+          ≡ cond (is_end (last_of (dedup_from eq y ys)) x) (dedup_from eq y ys)
+          (dedup_from eq y ys ++ x ∷ [])
           → (rest : List X) × (dedup_from eq y ys ≡ y ∷ rest)
           → cond b (dedup_from eq k (ys ++ x ∷ [])) (k ∷ dedup_from eq y (ys ++ x ∷ []))
-          ≡ cond (is_end (last_of (cond b (dedup_from eq k ys) (k ∷ dedup_from eq y ys))) x) (cond b (dedup_from eq k ys) (k ∷ dedup_from eq y ys))
+          ≡ cond (is_end (last_of (cond b (dedup_from eq k ys) (k ∷ dedup_from eq y ys))) x)
+          (cond b (dedup_from eq k ys) (k ∷ dedup_from eq y ys))
           (cond b (dedup_from eq k ys) (k ∷ dedup_from eq y ys) ++ x ∷ [])
       go true less more begins = less
       go false less more begins =
           rw (more, begins.1) (front begins.0 (is_end (last_of (y ∷ begins.0)) x))
 
   -- one item more is kept unless it is the last one that was
-  pub dedup_more : (xs : List X) (x : X) → dedup eq (xs ++ x ∷ []) ≡ cond (is_end (last_of (dedup eq xs)) x) (dedup eq xs) (dedup eq xs ++ x ∷ [])
+  pub dedup_more : (xs : List X) (x : X)
+      → dedup eq (xs ++ x ∷ [])
+      ≡ cond (is_end (last_of (dedup eq xs)) x) (dedup eq xs) (dedup eq xs ++ x ∷ [])
   dedup_more [] x = refl
   dedup_more (k ∷ xs) x = more_from k xs x
 
 -- ---- strictly in order
 
 module _ {X : Type 0} (cmp : X → X → Ordering) (total : IsTotalOrder cmp) (eq : X → X → Bool)
-    (decides : (a b : X) → Decides (eq a b) (a ≡ b)) (tied : (a b : X) → cmp a b ≡ Equal → a ≡ b) where
+    (decides : (a b : X) → Decides (eq a b) (a ≡ b))
+    (tied : (a b : X) → cmp a b ≡ Equal → a ≡ b) where
   abbrev pub Below : X → X → Type 0
   Below a b = is_lt (cmp a b) ≡ true
 
@@ -137,13 +155,15 @@ module _ {X : Type 0} (cmp : X → X → Ordering) (total : IsTotalOrder cmp) (e
       go false apart = apart
 
   pub below_chain : (a b c : X) → Below a b → Below b c → Below a c
-  below_chain a b c first second = ap is_lt (total.trans a b c (less (cmp a b) first) (less (cmp b c) second))
+  below_chain a b c first second =
+      ap is_lt (total.trans a b c (less (cmp a b) first) (less (cmp b c) second))
 
   upto_from : (a b : X) → Below a b → Upto a b
   upto_from a b lt = ap is_le (less (cmp a b) lt)
 
   pub below_upto : (a b c : X) → Below a b → Upto b c → Below a c
-  below_upto a b c lt upto = strictly a c (order.chain a b c (upto_from a b lt) upto) (go (eq c a) refl)
+  below_upto a b c lt upto =
+      strictly a c (order.chain a b c (upto_from a b lt) upto) (go (eq c a) refl)
     where
       order : IsOrder (λ x y. is_le (cmp x y))
       order = order_from_cmp cmp total tied
@@ -156,18 +176,24 @@ module _ {X : Type 0} (cmp : X → X → Ordering) (total : IsTotalOrder cmp) (e
           absurd (true≢false (sym ((decides b a).1 (sym tie)) ∙ below_apart a b lt))
       go false apart = apart
 
-  up_from : (k : X) (xs : List X) → IsUp (λ a b. is_le (cmp a b)) (k ∷ xs) → IsUp (λ a b. is_lt (cmp a b)) (dedup_from eq k xs)
+  up_from : (k : X) (xs : List X) → IsUp (λ a b. is_le (cmp a b)) (k ∷ xs)
+      → IsUp (λ a b. is_lt (cmp a b)) (dedup_from eq k xs)
   up_from k [] up = (tt, tt)
   up_from k (x ∷ xs) up = go (eq x k) refl (up_from k xs (up.0.1, up.1.1)) (up_from x xs up.1)
     where
-      go : (b : Bool) → eq x k ≡ b → IsUp (λ a c. is_lt (cmp a c)) (dedup_from eq k xs) → IsUp (λ a c. is_lt (cmp a c)) (dedup_from eq x xs)
+      go : (b : Bool) → eq x k ≡ b → IsUp (λ a c. is_lt (cmp a c)) (dedup_from eq k xs)
+          → IsUp (λ a c. is_lt (cmp a c)) (dedup_from eq x xs)
           → IsUp (λ a c. is_lt (cmp a c)) (cond b (dedup_from eq k xs) (k ∷ dedup_from eq x xs))
       go true same less more = less
       go false apart less more =
-          let first : Below k x = strictly k x up.0.0 apart in
-          (all_deduped eq (Below k) x xs first (all_more _ _ (λ y h. below_upto k x y first h) xs up.1.0), more)
+          let first : Below k x = strictly k x up.0.0 apart in (
+            all_deduped eq (Below k) x xs first
+                (all_more _ _ (λ y h. below_upto k x y first h) xs up.1.0),
+            more,
+          )
 
   -- each item of a list in order once is a list strictly in order
-  pub up_dedup : (xs : List X) → IsUp (λ a b. is_le (cmp a b)) xs → IsUp (λ a b. is_lt (cmp a b)) (dedup eq xs)
+  pub up_dedup : (xs : List X) → IsUp (λ a b. is_le (cmp a b)) xs
+      → IsUp (λ a b. is_lt (cmp a b)) (dedup eq xs)
   up_dedup [] up = tt
   up_dedup (x ∷ xs) up = up_from x xs up

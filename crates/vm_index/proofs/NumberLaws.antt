@@ -50,13 +50,15 @@ more_apart : (m n : ℕ) → n < m → eqb m n ≡ false
 more_apart m n h = grind (arith, nat_tests)
 
 -- what is above a number that isn't below n isn't below n either
-all_from : (n m : ℕ) (ms : List ℕ) → n ≤ m → AllAbove m ms → AllByRecursion (λ x. nat_le n x ≡ true) ms
+all_from : (n m : ℕ) (ms : List ℕ) → n ≤ m → AllAbove m ms
+    → AllByRecursion (λ x. nat_le n x ≡ true) ms
 all_from n m ms h = all_more _ _ (λ x p. le_yes n x (omega (arith, ltb-true m x p))) ms
 
 all_above : (n m : ℕ) (ms : List ℕ) → n ≤ m → AllAbove m ms → AllAbove n ms
 all_above n m ms h = all_more _ _ (λ x p. lt-ltb n x (omega (arith, ltb-true m x p))) ms
 
-all_past : (n m : ℕ) (ms : List ℕ) → n ≤ m → AllAbove m ms → AllByRecursion (λ x. nat_lt x n ≡ false) ms
+all_past : (n m : ℕ) (ms : List ℕ) → n ≤ m → AllAbove m ms
+    → AllByRecursion (λ x. nat_lt x n ≡ false) ms
 all_past n m ms h = all_more _ _ (λ x p. lt_no x n (omega (arith, ltb-true m x p))) ms
 
 none_held : (n m : ℕ) (ms : List ℕ) → n ≤ m → AllAbove m ms → holds ms n ≡ false
@@ -91,7 +93,8 @@ spot n (m ∷ ms) up = ⊎_elim (lower (spot n ms up.1)) (⊎_elim equal higher)
         let eq = eq_yes m n h in
         let all = filter_all (nat_le n) ms (all_from n m ms (omega arith) up.0) in
         let others = filter_all (nat_lt n) ms (all_above n m ms (omega arith) up.0) in
-        here (rw (le, lt) (ap (λ x. x ∷ from n ms) h ∙ ap (λ xs. n ∷ xs) (all ∙ sym others))) (rw eq)
+        here (rw (le, lt) (ap (λ x. x ∷ from n ms) h ∙ ap (λ xs. n ∷ xs) (all ∙ sym others)))
+        (rw eq)
 
     higher : n < m → Spot n (m ∷ ms)
     higher h =
@@ -100,7 +103,8 @@ spot n (m ∷ ms) up = ⊎_elim (lower (spot n ms up.1)) (⊎_elim equal higher)
         let eq = more_apart m n h in
         let all = filter_all (nat_le n) ms (all_from n m ms (omega arith) up.0) in
         let others = filter_all (nat_lt n) ms (all_above n m ms (omega arith) up.0) in
-        absent (rw (le, lt) (ap (λ xs. m ∷ xs) (all ∙ sym others))) (rw eq (none_held n m ms (omega arith) up.0))
+        absent (rw (le, lt) (ap (λ xs. m ∷ xs) (all ∙ sym others)))
+        (rw eq (none_held n m ms (omega arith) up.0))
 
 -- the first place that isn't below n parts the set there
 pub taken : (n : ℕ) (ns : List ℕ) → Rise ns → take (position_or_len (nat_le n) ns) ns ≡ below n ns
@@ -144,23 +148,27 @@ of_first : (P : ℕ → Type 0) (ns : List ℕ) → AllByRecursion P ns → 1 �
 of_first P [] all h = absurd (omega arith)
 of_first P (n ∷ ns) all h = all.0
 
-pub first_is : (n : ℕ) (ns rest : List ℕ) → Rise ns → rest ≡ from n ns → 1 ≤ length rest → get_or rest 0 0 ≡ n
+pub first_is : (n : ℕ) (ns rest : List ℕ) → Rise ns → rest ≡ from n ns → 1 ≤ length rest
+    → get_or rest 0 0 ≡ n
     → (true ≡ holds ns n) × (take (length rest - 1) (drop 1 rest) ≡ above n ns)
 first_is n ns rest up is long first = elim (spot n ns up) [
   | here begins found ↦ (sym found, rw (is, begins) (taken_all (above n ns)))
   | absent others none ↦
-      let all : AllByRecursion (λ m. nat_lt n m ≡ true) rest = rw (is ∙ others) (all_own (nat_lt n) ns) in
+      let all : AllByRecursion (λ m. nat_lt n m ≡ true) rest =
+      rw (is ∙ others) (all_own (nat_lt n) ns) in
       absurd (omega (arith, ltb-true n (get_or rest 0 0) (of_first _ rest all long)))
 ]
   where
     taken_all : (ms : List ℕ) → take (suc (length ms) - 1) ms ≡ ms
     taken_all ms = grind (arith, common_steps)
 
-pub first_isnt : (n : ℕ) (ns rest : List ℕ) → Rise ns → rest ≡ from n ns → (length rest < 1) ⊎ (get_or rest 0 0 ≢ n)
+pub first_isnt : (n : ℕ) (ns rest : List ℕ) → Rise ns → rest ≡ from n ns → (length rest < 1)
+    ⊎ (get_or rest 0 0 ≢ n)
     → (false ≡ holds ns n) × (rest ≡ above n ns)
 first_isnt n ns rest up is other = elim (spot n ns up) [
   | here begins found ↦ absurd (⊎_elim
-      (λ short. let long : length rest ≡ suc (length (above n ns)) = ap length (is ∙ begins) in omega arith)
+      (λ short. let long : length rest
+      ≡ suc (length (above n ns)) = ap length (is ∙ begins) in omega arith)
       (λ apart. apart (rw (is, begins)))
       other)
   | absent others none ↦ (sym none, is ∙ others)
@@ -180,23 +188,35 @@ step_above n m (x ∷ xs) h = go (nat_lt n x) refl (step_above n m xs h)
         rw apart more
 
 pub kept_step : (among : Bool) (n : ℕ) (ns others : List ℕ) → AllAbove n ns
-    → kept among others (n ∷ ns) ≡ cond (stays among (holds others n)) (n ∷ kept among (above n others) ns) (kept among (above n others) ns)
+    → kept among others (n ∷ ns)
+    ≡ cond (stays among (holds others n)) (n ∷ kept among (above n others) ns)
+    (kept among (above n others) ns)
 kept_step among n ns others all =
     ap (λ ms. cond (stays among (holds others n)) (n ∷ ms) ms)
-    (filter_same _ _ ns (all_more _ _ (λ m over. ap (stays among) (sym (step_above n m others (ltb-true n m over)))) ns all))
+    (filter_same _ _ ns
+    (all_more _ _ (λ m over. ap (stays among) (sym (step_above n m others (ltb-true n m over))))
+    ns all))
 
 -- a loop's step: the first number left of a set goes to the end of what is done, or doesn't
-pub kept_put : (among : Bool) (n : ℕ) (done whole ns others : List ℕ) → AllAbove n ns → stays among (holds others n) ≡ true
-    → done ++ kept among others (n ∷ ns) ≡ whole → (done ++ n ∷ []) ++ kept among (above n others) ns ≡ whole
+pub kept_put : (among : Bool) (n : ℕ) (done whole ns others : List ℕ) → AllAbove n ns
+    → stays among (holds others n) ≡ true
+    → done ++ kept among others (n ∷ ns) ≡ whole → (done ++ n ∷ [])
+    ++ kept among (above n others) ns ≡ whole
 kept_put among n done whole ns others all put so_far =
     append_assoc done (n ∷ []) (kept among (above n others) ns)
-    ∙ ap (λ ms. done ++ ms) (sym (kept_step among n ns others all ∙ ap (λ b. cond b (n ∷ kept among (above n others) ns) (kept among (above n others) ns)) put))
+    ∙ ap (λ ms. done ++ ms)
+    (sym (kept_step among n ns others all
+    ∙ ap (λ b. cond b (n ∷ kept among (above n others) ns) (kept among (above n others) ns)) put))
     ∙ so_far
 
-pub kept_left : (among : Bool) (n : ℕ) (done whole ns others : List ℕ) → AllAbove n ns → stays among (holds others n) ≡ false
+pub kept_left : (among : Bool) (n : ℕ) (done whole ns others : List ℕ) → AllAbove n ns
+    → stays among (holds others n) ≡ false
     → done ++ kept among others (n ∷ ns) ≡ whole → done ++ kept among (above n others) ns ≡ whole
 kept_left among n done whole ns others all left so_far =
-    ap (λ ms. done ++ ms) (sym (kept_step among n ns others all ∙ ap (λ b. cond b (n ∷ kept among (above n others) ns) (kept among (above n others) ns)) left))
+    ap (λ ms. done ++ ms)
+    (sym (kept_step among n ns others all
+    ∙ ap (λ b. cond b (n ∷ kept among (above n others) ns) (kept among (above n others) ns))
+    left))
     ∙ so_far
 
 -- ---- what the sets become
@@ -209,7 +229,8 @@ holds_filter p (n ∷ ns) m = go (p n) (eqb n m) refl refl (holds_filter p ns m)
     same h = ap p (sym (eqb-true n m h))
 
     go : (b e : Bool) → p n ≡ b → eqb n m ≡ e → holds (filter p ns) m ≡ (holds ns m && p m)
-        → list_any (λ y. eqb y m) (cond b (n ∷ filter p ns) (filter p ns)) ≡ ((e || holds ns m) && p m)
+        → list_any (λ y. eqb y m) (cond b (n ∷ filter p ns) (filter p ns))
+        ≡ ((e || holds ns m) && p m)
     go true true passes is more = rw is (sym (same is ∙ passes))
     go true false passes isnt more = rw isnt more
     go false true fails is more = more ∙ rw (same is ∙ fails) (and-false (holds ns m))
@@ -218,34 +239,53 @@ holds_filter p (n ∷ ns) m = go (p n) (eqb n m) refl refl (holds_filter p ns m)
 pub both : (a b : List ℕ) → Rise a → AreThose (λ n. holds a n && holds b n) (kept true b a)
 both a b up = record { rising = up_filter nat_lt (holds b) a up; same = holds_filter (holds b) a }
 
-pub without : (a b : List ℕ) → Rise a → AreThose (λ n. holds a n && not (holds b n)) (kept false b a)
-without a b up = record { rising = up_filter nat_lt (λ n. not (holds b n)) a up; same = holds_filter (λ n. not (holds b n)) a }
+pub without : (a b : List ℕ) → Rise a
+    → AreThose (λ n. holds a n && not (holds b n)) (kept false b a)
+without a b up =
+    record {
+      rising = up_filter nat_lt (λ n. not (holds b n)) a up;
+      same = holds_filter (λ n. not (holds b n)) a;
+    }
 
-all_merged : (P : ℕ → Type 0) (a b : List ℕ) → AllByRecursion P a → AllByRecursion P b → AllByRecursion P (merged a b)
+all_merged : (P : ℕ → Type 0) (a b : List ℕ) → AllByRecursion P a → AllByRecursion P b
+    → AllByRecursion P (merged a b)
 all_merged P [] b all others = others
 all_merged P (n ∷ ns) b all others =
     all_append P (below n b) (n ∷ merged ns (above n b)) (all_filter P (λ m. nat_lt m n) b others)
     (all.0, all_merged P ns (above n b) all.1 (all_filter P (nat_lt n) b others))
 
-up_around : (n : ℕ) (low high : List ℕ) → Rise low → Rise high → AllByRecursion (λ m. nat_lt m n ≡ true) low → AllAbove n high → Rise (low ++ n ∷ high)
+up_around : (n : ℕ) (low high : List ℕ) → Rise low → Rise high
+    → AllByRecursion (λ m. nat_lt m n ≡ true) low → AllAbove n high → Rise (low ++ n ∷ high)
 up_around n [] high up over all others = (others, over)
-up_around n (m ∷ ms) high up over all others =
-    (all_append _ ms (n ∷ high) up.0 (all.0, all_more _ _ (λ x h. lt-ltb m x (omega (arith, ltb-true m n all.0, ltb-true n x h))) high others), up_around n ms high up.1 over all.1 others)
+up_around n (m ∷ ms) high up over all others = (
+  all_append _ ms (n ∷ high) up.0 (
+    all.0,
+    all_more _ _ (λ x h. lt-ltb m x (omega (arith, ltb-true m n all.0, ltb-true n x h)))
+        high others,
+  ),
+  up_around n ms high up.1 over all.1 others,
+)
 
 merged_rises : (a b : List ℕ) → Rise a → Rise b → Rise (merged a b)
 merged_rises [] b up over = over
 merged_rises (n ∷ ns) b up over =
     up_around n (below n b) (merged ns (above n b)) (up_filter nat_lt (λ m. nat_lt m n) b over)
-    (merged_rises ns (above n b) up.1 (up_filter nat_lt (nat_lt n) b over)) (all_own (λ m. nat_lt m n) b)
+    (merged_rises ns (above n b) up.1 (up_filter nat_lt (nat_lt n) b over))
+    (all_own (λ m. nat_lt m n) b)
     (all_merged _ ns (above n b) up.0 (all_own (nat_lt n) b))
 
 merged_holds : (a b : List ℕ) (m : ℕ) → holds (merged a b) m ≡ (holds a m || holds b m)
 merged_holds [] b m = refl
 merged_holds (n ∷ ns) b m =
     list_any-append (λ y. eqb y m) (below n b) (n ∷ merged ns (above n b))
-    ∙ rw (holds_filter (λ x. nat_lt x n) b m, merged_holds ns (above n b) m, holds_filter (nat_lt n) b m) (regrouped (holds b m) (holds ns m))
+    ∙ rw (
+      holds_filter (λ x. nat_lt x n) b m,
+      merged_holds ns (above n b) m,
+      holds_filter (nat_lt n) b m,
+    ) (regrouped (holds b m) (holds ns m))
   where
-    regrouped : (x y : Bool) → ((x && nat_lt m n) || (eqb n m || (y || (x && nat_lt n m)))) ≡ ((eqb n m || y) || x)
+    regrouped : (x y : Bool)
+        → ((x && nat_lt m n) || (eqb n m || (y || (x && nat_lt n m)))) ≡ ((eqb n m || y) || x)
     regrouped x y = grind (arith, nat_tests)
 
 pub either : (a b : List ℕ) → Rise a → Rise b → AreThose (λ n. holds a n || holds b n) (merged a b)
@@ -279,24 +319,31 @@ stays_other true false isnt = refl
 stays_other false true isnt = refl
 stays_other false false isnt = isnt
 
-pub kept_more : (among found : Bool) (a : List ℕ) (i : ℕ) (others done whole : List ℕ) → i < length a → Rise a
-    → found ≡ holds others (get_or a i 0) → beq found among ≡ true → done ++ kept among others (drop i a) ≡ whole
-    → (done ++ get_or a i 0 ∷ []) ++ kept among (above (get_or a i 0) others) (drop (i + 1) a) ≡ whole
+pub kept_more : (among found : Bool) (a : List ℕ) (i : ℕ) (others done whole : List ℕ)
+    → i < length a → Rise a
+    → found ≡ holds others (get_or a i 0) → beq found among ≡ true → done
+    ++ kept among others (drop i a) ≡ whole
+    → (done ++ get_or a i 0 ∷ [])
+    ++ kept among (above (get_or a i 0) others) (drop (i + 1) a) ≡ whole
 kept_more among found a i others done whole within up is same so_far =
     kept_put among (get_or a i 0) done whole (drop (i + 1) a) others (over_place a i within up)
     (ap (stays among) (sym is) ∙ stays_same among found same)
     (ap (λ ns. done ++ kept among others ns) (sym (at_place a i within)) ∙ so_far)
 
-pub kept_less : (among found : Bool) (a : List ℕ) (i : ℕ) (others done whole : List ℕ) → i < length a → Rise a
-    → found ≡ holds others (get_or a i 0) → beq found among ≡ false → done ++ kept among others (drop i a) ≡ whole
+pub kept_less : (among found : Bool) (a : List ℕ) (i : ℕ) (others done whole : List ℕ)
+    → i < length a → Rise a
+    → found ≡ holds others (get_or a i 0) → beq found among ≡ false → done
+    ++ kept among others (drop i a) ≡ whole
     → done ++ kept among (above (get_or a i 0) others) (drop (i + 1) a) ≡ whole
 kept_less among found a i others done whole within up is other so_far =
     kept_left among (get_or a i 0) done whole (drop (i + 1) a) others (over_place a i within up)
     (ap (stays among) (sym is) ∙ stays_other among found other)
     (ap (λ ns. done ++ kept among others ns) (sym (at_place a i within)) ∙ so_far)
 
-pub merged_more : (a : List ℕ) (i : ℕ) (others done whole : List ℕ) → i < length a → done ++ merged (drop i a) others ≡ whole
-    → ((done ++ below (get_or a i 0) others) ++ get_or a i 0 ∷ []) ++ merged (drop (i + 1) a) (above (get_or a i 0) others) ≡ whole
+pub merged_more : (a : List ℕ) (i : ℕ) (others done whole : List ℕ) → i < length a → done
+    ++ merged (drop i a) others ≡ whole
+    → ((done ++ below (get_or a i 0) others) ++ get_or a i 0 ∷ [])
+    ++ merged (drop (i + 1) a) (above (get_or a i 0) others) ≡ whole
 merged_more a i others done whole within so_far =
     merged_step (get_or a i 0) done whole (drop (i + 1) a) others
     (ap (λ ns. done ++ merged ns others) (sym (at_place a i within)) ∙ so_far)

@@ -21,7 +21,8 @@ text_fields text = to_be_bytes w16 (length text) ∷ text ∷ []
 -- a name and a value, how many ordinals there are, and each ordinal
 abbrev pub posting_fields : Posting → List (List ℕ)
 posting_fields q =
-    text_fields q.pair.name ++ text_fields q.pair.value ++ to_be_bytes w64 (length q.ordinals) ∷ map (to_be_bytes w64) q.ordinals
+    text_fields q.pair.name ++ text_fields q.pair.value
+    ++ to_be_bytes w64 (length q.ordinals) ∷ map (to_be_bytes w64) q.ordinals
 
 -- how many postings there are, and each posting: the fields one after the other
 abbrev pub postings_fields : List Posting → List (List ℕ)

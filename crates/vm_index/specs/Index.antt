@@ -28,7 +28,8 @@ pub record AreSets (sets : List (List Pair)) : Type 0 where
 -- the places of the items that pass a test, counted from a number
 abbrev pub places_from : {X : Type 0} → ℕ → (X → Bool) → List X → List ℕ
 places_from at p [] = []
-places_from at p (x ∷ xs) = if p x then at ∷ places_from (suc at) p xs else places_from (suc at) p xs
+places_from at p (x ∷ xs) = if p x then at ∷ places_from (suc at) p xs
+    else places_from (suc at) p xs
 
 -- the ordinals of the sets that have a pair
 abbrev pub ordinals_of : List (List Pair) → Pair → List ℕ

@@ -23,8 +23,10 @@ pub record IsTable (count : ℕ) (table : List ℕ) (sets : List (List Pair)) : 
 pub data BreaksBehind (sets : List (List Pair)) (due : ℕ) (rest : List ℕ) : ℕ → Type 0 where
   left_over : due ≡ 0 → 0 < length rest → BreaksBehind sets due rest 0
   no_length : 0 < due → length rest < 4 → BreaksBehind sets due rest 0
-  past_the_end : (n : ℕ) (more : List ℕ) → 0 < due → n < 2 ^ 32 → rest ≡ to_be_bytes w32 n ++ more → length more < n → BreaksBehind sets due rest 0
-  no_set : (bytes more : List ℕ) (at : ℕ) → 0 < due → length bytes < 2 ^ 32 → rest ≡ to_be_bytes w32 (length bytes) ++ bytes ++ more
+  past_the_end : (n : ℕ) (more : List ℕ) → 0 < due → n < 2 ^ 32 → rest ≡ to_be_bytes w32 n ++ more
+      → length more < n → BreaksBehind sets due rest 0
+  no_set : (bytes more : List ℕ) (at : ℕ) → 0 < due → length bytes < 2 ^ 32
+      → rest ≡ to_be_bytes w32 (length bytes) ++ bytes ++ more
       → label_set_of bytes ≡ Err at → BreaksBehind sets due rest (4 + at)
   no_rise : (set : List Pair) (more : List ℕ) → 0 < due → HasBytes set → rest ≡ framed set ++ more
       → list_all (λ s. is_set_below s set) sets ≡ false → BreaksBehind sets due rest 4
@@ -45,7 +47,8 @@ pub record TableBreaks (count : ℕ) (table : List ℕ) (at : ℕ) : Type 0 wher
 
 -- the bytes after a field, or how many there are where the field doesn't stand
 abbrev pub behind : List ℕ → List ℕ → Result (List ℕ) ℕ
-behind field bytes = if bytes_eq (take (length field) bytes) field then Ok (drop (length field) bytes) else Err (length bytes)
+behind field bytes = if bytes_eq (take (length field) bytes) field
+    then Ok (drop (length field) bytes) else Err (length bytes)
 
 -- the bytes after fields that stand one after the other, or how many there are from the first one
 -- on that doesn't
@@ -79,7 +82,8 @@ TableFault count table Memory = ⊤
 abbrev pub IsRefused : ℕ → List ℕ → List ℕ → IndexFault → Type 0
 IsRefused count table postings (BrokenTable at) = TableBreaks count table at
 IsRefused count table postings (BrokenPostings at) =
-    (sets : List (List Pair)) × IsTable count table sets × (first_off (postings_fields (postings_of sets)) postings ≡ Some at)
+    (sets : List (List Pair)) × IsTable count table sets
+    × (first_off (postings_fields (postings_of sets)) postings ≡ Some at)
 IsRefused count table postings Memory = ⊤
 
 -- one label set more
@@ -94,7 +98,8 @@ pub record Joins (sets : List (List Pair)) (bytes : List ℕ) (more : List (List
 abbrev pub SetFault : List (List Pair) → List ℕ → ℕ → IndexFault → Type 0
 SetFault sets bytes at (BrokenTable place) =
     ((n : ℕ) × (label_set_of bytes ≡ Err n) × (place ≡ at + n))
-    ⊎ ((set : List Pair) × HasBytes set × (bytes ≡ label_set_bytes set) × (list_all (λ s. is_set_below s set) sets ≡ false) × (place ≡ at))
+    ⊎ ((set : List Pair) × HasBytes set × (bytes ≡ label_set_bytes set)
+    × (list_all (λ s. is_set_below s set) sets ≡ false) × (place ≡ at))
 SetFault sets bytes at (BrokenPostings place) = ⊥
 SetFault sets bytes at Memory = ⊤
 

@@ -17,7 +17,8 @@ is_name_in sets name = list_any (list_any (λ p. bytes_eq name p.name)) sets
 
 -- whether some set has the name with the value
 abbrev pub is_value_in : List (List Pair) → List ℕ → List ℕ → Bool
-is_value_in sets name value = list_any (list_any (pair_eq (record { name = name; value = value }))) sets
+is_value_in sets name value =
+    list_any (list_any (pair_eq (record { name = name; value = value }))) sets
 
 -- ---- how names are gathered
 

@@ -6,7 +6,8 @@ use Rattle.vm_index.specs.Bytes.{postings_bytes, table_bytes}
 use Rattle.vm_index.specs.Index.{AreSets, postings_of}
 
 -- the label table, the postings and their bytes are those of the sets
-pub record IsWhole (sets : List (List Pair)) (table : List ℕ) (postings : List Posting) (bytes : List ℕ) : Type 0 where
+pub record IsWhole (sets : List (List Pair)) (table : List ℕ) (postings : List Posting)
+    (bytes : List ℕ) : Type 0 where
   pub labels : AreSets sets
   pub tabled : table ≡ table_bytes sets
   pub posted : postings ≡ postings_of sets

@@ -64,7 +64,9 @@ fn put_posting(out: &mut Vec<u8>, posting: &Posting) -> Result<(), AllocError>
 
 /// Appends how many numbers there are, and each number.
 fn put_numbers(out: &mut Vec<u8>, numbers: &[u64]) -> Result<(), AllocError>
-    ensures { OnOk result (out.new.items ≡ out.old.items ++ concat (to_be_bytes w64 (length numbers.now) ∷ map (to_be_bytes w64) numbers.now)) }
+    ensures { OnOk result
+        (out.new.items ≡ out.old.items
+        ++ concat (to_be_bytes w64 (length numbers.now) ∷ map (to_be_bytes w64) numbers.now)) }
 {
     put_number(out, numbers.len() as u64)?;
     for number in numbers {

@@ -46,7 +46,9 @@ fn put_entries<'a>(
     pairs: &'a [Pair],
     ordinal: u64,
 ) -> Result<(), AllocError>
-    ensures { OnOk result (map seen entries.new.items ≡ map seen entries.old.items ++ map (λ p. (p, ordinal)) pairs.now) }
+    ensures { OnOk result
+        (map seen entries.new.items ≡ map seen entries.old.items
+        ++ map (λ p. (p, ordinal)) pairs.now) }
 {
     for pair in pairs {
         entries.push(Entry { pair, ordinal })?;
@@ -87,7 +89,8 @@ fn group_len(pair: &Pair, entries: &[Entry]) -> usize
 
 /// The posting of a pair, from its entries.
 fn collected(alloc: Global, pair: &Pair, group: &[Entry]) -> Result<Posting, AllocError>
-    ensures { IfOk result (λ p. p ≡ record { pair = pair.now; ordinals = map (λ e. (seen e).1) group.now }) }
+    ensures { IfOk result
+        (λ p. p ≡ record { pair = pair.now; ordinals = map (λ e. (seen e).1) group.now }) }
 {
     let ordinals: Vec<u64> = group.iter().map(|entry| entry.ordinal).collect(alloc)?;
     Ok(Posting {

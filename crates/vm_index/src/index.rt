@@ -78,9 +78,12 @@ impl Index {
         postings: &[u8],
         count: u64,
     ) -> Result<Index, IndexFault>
-        ensures found { IfOk result (λ sets. IsTable count table.now sets × (postings.now ≡ postings_bytes (postings_of sets))) }
+        ensures found { IfOk result
+            (λ sets. IsTable count table.now sets
+            × (postings.now ≡ postings_bytes (postings_of sets))) }
         ensures only { (sets : List (List Pair)) → IsTable count table.now sets
-            → postings.now ≡ postings_bytes (postings_of sets) → IfErr result (λ fault. fault ≡ Memory) }
+            → postings.now ≡ postings_bytes (postings_of sets)
+            → IfErr result (λ fault. fault ≡ Memory) }
         ensures broken { IfErr result (λ fault. IsRefused count table.now postings.now fault) }
     {
         let sets = sets_of(alloc, table, count)?;
@@ -121,7 +124,8 @@ impl Index {
     /// The ordinals of the sets that have this name with this value. They rise. An empty value is
     /// none that a set has.
     pub fn lookup(&self, name: &str, value: &str) -> &[u64]
-        ensures ordinals { result.now ≡ ordinals_of self.now (record { name = name.now; value = value.now }) }
+        ensures ordinals { result.now
+            ≡ ordinals_of self.now (record { name = name.now; value = value.now }) }
         ensures rising { Rise result.now }
     {
         found(self.postings.as_slice(), name, value)

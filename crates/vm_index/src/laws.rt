@@ -6,7 +6,8 @@ ghost use Rattle.vm_index.specs.Reading.{IsTable, TableBreaks};
 
 /// A table of so many label sets is that of one list of them.
 pub fn a_table_says_one_list()
-    ensures { (count : ℕ) (table : List ℕ) (sets others : List (List Pair)) → IsTable count table sets
+    ensures { (count : ℕ) (table : List ℕ) (sets others : List (List Pair))
+        → IsTable count table sets
         → IsTable count table others → sets ≡ others }
 {}
 

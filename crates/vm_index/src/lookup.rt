@@ -22,7 +22,8 @@ pub(crate) fn found<'a>(postings: &'a [Posting], name: &str, value: &str) -> &'a
 /// Where the posting of a pair stands, or would stand.
 fn place_of(postings: &[Posting], name: &str, value: &str) -> Result<usize, usize>
     ensures bound { IsSearchInRange result (length postings.now) }
-    ensures place { IsBinarySearchResult (λ q. pair_cmp q.pair (record { name = name.now; value = value.now })) postings.now result }
+    ensures place { IsBinarySearchResult
+        (λ q. pair_cmp q.pair (record { name = name.now; value = value.now })) postings.now result }
 {
     postings.binary_search_by(|posting| compare(posting, name, value))
 }

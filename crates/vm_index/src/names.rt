@@ -11,7 +11,8 @@ use vm_base::Text;
 
 /// The names of postings, none of them twice in a row.
 pub(crate) fn names_of(alloc: Global, postings: &[Posting]) -> Result<Vec<Text>, AllocError>
-    ensures { IfOk result (λ names. names.items ≡ dedup bytes_eq (map (λ q. q.pair.name) postings.now)) }
+    ensures { IfOk result
+        (λ names. names.items ≡ dedup bytes_eq (map (λ q. q.pair.name) postings.now)) }
 {
     let mut names = Vec::new(alloc);
     for posting in postings {
@@ -47,7 +48,9 @@ pub(crate) fn values_of(
     name: &str,
 ) -> Result<Vec<Text>, AllocError>
     requires { PostingsRise postings.now }
-    ensures { IfOk result (λ values. values.items ≡ map (λ q. q.pair.value) (filter (λ q. bytes_eq q.pair.name name.now) postings.now)) }
+    ensures { IfOk result
+        (λ values. values.items
+        ≡ map (λ q. q.pair.value) (filter (λ q. bytes_eq q.pair.name name.now) postings.now)) }
 {
     let mut values = Vec::new(alloc);
     let run = run_of(postings, name);

@@ -104,7 +104,8 @@ pub(crate) fn first_off(postings: &[Posting], bytes: &[u8]) -> Option<u64>
 /// The bytes after postings, or how many there are from the first wrong field on.
 fn behind_all<'a>(postings: &[Posting], bytes: &'a [u8]) -> Result<&'a [u8], usize>
     requires { AllByRecursion (λ q. is_too_long q.pair ≡ false) postings.now }
-    ensures { Gives (λ rest. rest.now) result (behind_all (postings_fields postings.now) bytes.now) }
+    ensures { Gives (λ rest. rest.now) result
+        (behind_all (postings_fields postings.now) bytes.now) }
 {
     let mut rest = behind(&(postings.len() as u64).to_be_bytes(), bytes)?;
     for posting in postings {
@@ -125,7 +126,9 @@ fn behind_posting<'a>(posting: &Posting, bytes: &'a [u8]) -> Result<&'a [u8], us
 
 /// The bytes after how many numbers there are, and each number.
 fn behind_numbers<'a>(numbers: &[u64], bytes: &'a [u8]) -> Result<&'a [u8], usize>
-    ensures { Gives (λ rest. rest.now) result (behind_all (to_be_bytes w64 (length numbers.now) ∷ map (to_be_bytes w64) numbers.now) bytes.now) }
+    ensures { Gives (λ rest. rest.now) result
+        (behind_all (to_be_bytes w64 (length numbers.now) ∷ map (to_be_bytes w64) numbers.now)
+        bytes.now) }
 {
     let mut rest = behind(&(numbers.len() as u64).to_be_bytes(), bytes)?;
     for number in numbers {

@@ -27,7 +27,8 @@ module _ (text : List ℕ) (n : ℕ) (s : State) (here : n < length text)
       sym (take-append-drop n text) ∙ ap (λ rest. take n text ++ rest) (drop-cons text n 0 here) in
       let far : length (take n text) ≡ n = length-take-le n text (omega arith) in
       ap (reading step final start) parts
-      ∙ reading-stuck step final (take n text) (drop (suc n) text) start s (get_or text n 0) there none
+      ∙ reading-stuck step final (take n text) (drop (suc n) text) start s (get_or text n 0) there
+      none
       ∙ ap Err far
 
   pub stuck : step s (get_or text n 0) ≡ None → json_reading text ≡ Err n
@@ -45,13 +46,15 @@ pub short : (text : List ℕ) (s : State) → run step start text ≡ Some s →
 unfolding json_reading
 short text s there done = reading-end step final text start s there ∙ rw done refl
 
-pub may_end_there : (p : Phase) (inside : List Bracket) → ends p ≡ true → (length inside == 0) ≡ true → final (at p inside) ≡ Some tt
+pub may_end_there : (p : Phase) (inside : List Bracket) → ends p ≡ true
+    → (length inside == 0) ≡ true → final (at p inside) ≡ Some tt
 may_end_there p inside done closed = rw (done, closed) refl
 
 pub ends_not : (p : Phase) (inside : List Bracket) → ends p ≡ false → final (at p inside) ≡ None
 ends_not p inside not_done = rw not_done refl
 
-pub open_there : (p : Phase) (inside : List Bracket) → ends p ≡ true → (length inside == 0) ≡ false → final (at p inside) ≡ None
+pub open_there : (p : Phase) (inside : List Bracket) → ends p ≡ true → (length inside == 0) ≡ false
+    → final (at p inside) ≡ None
 open_there p inside done not_closed = rw (done, not_closed) refl
 
 pub wrong_none : (text : List ℕ) → json_reading text ≡ Ok tt → None ≡ wrong_place text

@@ -34,7 +34,8 @@ pub data Is : Symbol → ℕ → Type 0 where
 pub equal : (a b : ℕ) → (a == b) ≡ true → a ≡ b
 equal a b is = grind (arith, nat_tests)
 
-pick : (test : Bool) (x y : Symbol) (b : ℕ) → (test ≡ true → Is x b) → (test ≡ false → Is y b) → Is (if test then x else y) b
+pick : (test : Bool) (x y : Symbol) (b : ℕ) → (test ≡ true → Is x b) → (test ≡ false → Is y b)
+    → Is (if test then x else y) b
 pick true x y b first other = first refl
 pick false x y b first other = other refl
 
@@ -107,7 +108,9 @@ on p q inside now b text move reads =
     ap (λ o. option_and_then final (option_and_then (λ t. run step t text) o)) move ∙ reads
 
 -- white space changes nothing
-pub spaced : (p : Phase) (inside : List Bracket) → ((b : ℕ) → is_space b ≡ true → by_phase p inside b ≡ Some (at p inside))
+pub spaced : (p : Phase) (inside : List Bracket)
+    → ((b : ℕ) → is_space b ≡ true → by_phase p inside b ≡ Some (at p inside))
     → {text rest : List ℕ} → Spaces text rest → Reads p inside rest → Reads p inside text
 spaced p inside stays no_space reads = reads
-spaced p inside stays (a_space {text = text} b is more) reads = on p p inside inside b text (stays b is) (spaced p inside stays more reads)
+spaced p inside stays (a_space {text = text} b is more) reads =
+    on p p inside inside b text (stays b is) (spaced p inside stays more reads)

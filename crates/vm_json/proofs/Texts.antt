@@ -41,7 +41,8 @@ abbrev behind_quote : Bool → List Bracket → List ℕ
 behind_quote true inside = 34 ∷ 58 ∷ ending inside
 behind_quote false inside = 34 ∷ closing inside
 
-string_goes : (a_key : Bool) (w : Within) (inside : List Bracket) → (more : List ℕ) × Reads (InString a_key w) inside more
+string_goes : (a_key : Bool) (w : Within) (inside : List Bracket) → (more : List ℕ)
+    × Reads (InString a_key w) inside more
 string_goes true Plain inside = (behind_quote true inside, closes inside)
 string_goes true Escape inside = (98 ∷ behind_quote true inside, closes inside)
 string_goes true FourHex inside = (48 ∷ 48 ∷ 48 ∷ 48 ∷ behind_quote true inside, closes inside)
@@ -63,13 +64,15 @@ string_goes false TwoHex inside = (48 ∷ 48 ∷ behind_quote false inside, clos
 string_goes false OneHex inside = (48 ∷ behind_quote false inside, closes inside)
 string_goes false OneTail inside = (0x80 ∷ behind_quote false inside, closes inside)
 string_goes false TwoTails inside = (0x80 ∷ 0x80 ∷ behind_quote false inside, closes inside)
-string_goes false ThreeTails inside = (0x80 ∷ 0x80 ∷ 0x80 ∷ behind_quote false inside, closes inside)
+string_goes false ThreeTails inside =
+    (0x80 ∷ 0x80 ∷ 0x80 ∷ behind_quote false inside, closes inside)
 string_goes false BehindE0 inside = (0xA0 ∷ 0x80 ∷ behind_quote false inside, closes inside)
 string_goes false BehindED inside = (0x80 ∷ 0x80 ∷ behind_quote false inside, closes inside)
 string_goes false BehindF0 inside = (0x90 ∷ 0x80 ∷ 0x80 ∷ behind_quote false inside, closes inside)
 string_goes false BehindF4 inside = (0x80 ∷ 0x80 ∷ 0x80 ∷ behind_quote false inside, closes inside)
 
-number_goes : (d : Digits) (inside : List Bracket) → (more : List ℕ) × Reads (InNumber d) inside more
+number_goes : (d : Digits) (inside : List Bracket) → (more : List ℕ)
+    × Reads (InNumber d) inside more
 number_goes Zero inside = (32 ∷ closing inside, closes inside)
 number_goes Whole inside = (32 ∷ closing inside, closes inside)
 number_goes Fraction inside = (32 ∷ closing inside, closes inside)
@@ -115,7 +118,8 @@ pub reading_from_json : (text : List ℕ) → IsJson text → json_reading text 
 unfolding json_reading
 reading_from_json text is = reading-result step final start text tt (json_read text is.0 is.1)
 
-wrong_reading : (text : List ℕ) (at : ℕ) → reading step final start text ≡ Err at → FirstWrong IsJson text at
+wrong_reading : (text : List ℕ) (at : ℕ) → reading step final start text ≡ Err at
+    → FirstWrong IsJson text at
 wrong_reading text at reads =
     FirstWrong-same (λ t is. json_from_read t is.1) (λ t is. (tt, json_read t is.0 is.1)) text at
     (FirstWrong-reading step final viable start text at reads)
@@ -137,9 +141,11 @@ pub place_there : (text : List ℕ) (at : ℕ) → wrong_place text ≡ Some at 
 unfolding wrong_place
 place_there text at some = go (json_reading text) refl some
   where
-    go : (r : Result (Unit {0}) ℕ) → json_reading text ≡ r → wrong_in r ≡ Some at → FirstWrong IsJson text at
+    go : (r : Result (Unit {0}) ℕ) → json_reading text ≡ r → wrong_in r ≡ Some at
+        → FirstWrong IsJson text at
     go (Ok whole) is some = absurd (cc some)
-    go (Err n) is some = let same : n ≡ at = cc in subst (FirstWrong IsJson text) same (json_wrong text n is)
+    go (Err n) is some = let same : n ≡ at =
+        cc in subst (FirstWrong IsJson text) same (json_wrong text n is)
 
 -- and back
 pub none_there : (text : List ℕ) → IsJson text → wrong_place text ≡ None

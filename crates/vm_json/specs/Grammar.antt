@@ -42,7 +42,8 @@ is_space b = b == 32 || b == 9 || b == 10 || b == 13
 -- any number of these, and the rest
 pub data Spaces : List ℕ → List ℕ → Type 0 where
   no_space : {rest : List ℕ} → Spaces rest rest
-  a_space : {text rest : List ℕ} (b : ℕ) → is_space b ≡ true → Spaces text rest → Spaces (b ∷ text) rest
+  a_space : {text rest : List ℕ} (b : ℕ) → is_space b ≡ true → Spaces text rest
+      → Spaces (b ∷ text) rest
 
 -- ---- section 6: numbers
 
@@ -74,13 +75,16 @@ is_sign b = b == 43 || b == 45
 -- a mark, an optional sign and a digit or more, or nothing
 pub data IsExponent : List ℕ → Type 0 where
   no_exponent : IsExponent []
-  exponent : {ds : List ℕ} (mark b : ℕ) → is_mark mark ≡ true → IsDigit b → IsDigits ds → IsExponent (mark ∷ b ∷ ds)
-  signed_exponent : {ds : List ℕ} (mark sign b : ℕ) → is_mark mark ≡ true → is_sign sign ≡ true → IsDigit b → IsDigits ds → IsExponent (mark ∷ sign ∷ b ∷ ds)
+  exponent : {ds : List ℕ} (mark b : ℕ) → is_mark mark ≡ true → IsDigit b → IsDigits ds
+      → IsExponent (mark ∷ b ∷ ds)
+  signed_exponent : {ds : List ℕ} (mark sign b : ℕ) → is_mark mark ≡ true → is_sign sign ≡ true
+      → IsDigit b → IsDigits ds → IsExponent (mark ∷ sign ∷ b ∷ ds)
 
 -- the whole text is a number
 pub data IsNumber : List ℕ → Type 0 where
   positive : (w f e : List ℕ) → IsWhole w → IsFraction f → IsExponent e → IsNumber (w ++ (f ++ e))
-  negative : (w f e : List ℕ) → IsWhole w → IsFraction f → IsExponent e → IsNumber (45 ∷ (w ++ (f ++ e)))
+  negative : (w f e : List ℕ) → IsWhole w → IsFraction f → IsExponent e
+      → IsNumber (45 ∷ (w ++ (f ++ e)))
 
 -- ---- section 7: strings
 
@@ -95,13 +99,20 @@ is_tail = is_in_range 0x80 0xBF
 -- the bytes of one character above ASCII. (Unicode 15.0, table 3-7)
 pub data IsWide : List ℕ → Type 0 where
   two : (a b : ℕ) → is_in_range 0xC2 0xDF a ≡ true → is_tail b ≡ true → IsWide (a ∷ b ∷ [])
-  three_e0 : (b c : ℕ) → is_in_range 0xA0 0xBF b ≡ true → is_tail c ≡ true → IsWide (0xE0 ∷ b ∷ c ∷ [])
-  three_low : (a b c : ℕ) → is_in_range 0xE1 0xEC a ≡ true → is_tail b ≡ true → is_tail c ≡ true → IsWide (a ∷ b ∷ c ∷ [])
-  three_ed : (b c : ℕ) → is_in_range 0x80 0x9F b ≡ true → is_tail c ≡ true → IsWide (0xED ∷ b ∷ c ∷ [])
-  three_high : (a b c : ℕ) → is_in_range 0xEE 0xEF a ≡ true → is_tail b ≡ true → is_tail c ≡ true → IsWide (a ∷ b ∷ c ∷ [])
-  four_f0 : (b c d : ℕ) → is_in_range 0x90 0xBF b ≡ true → is_tail c ≡ true → is_tail d ≡ true → IsWide (0xF0 ∷ b ∷ c ∷ d ∷ [])
-  four : (a b c d : ℕ) → is_in_range 0xF1 0xF3 a ≡ true → is_tail b ≡ true → is_tail c ≡ true → is_tail d ≡ true → IsWide (a ∷ b ∷ c ∷ d ∷ [])
-  four_f4 : (b c d : ℕ) → is_in_range 0x80 0x8F b ≡ true → is_tail c ≡ true → is_tail d ≡ true → IsWide (0xF4 ∷ b ∷ c ∷ d ∷ [])
+  three_e0 : (b c : ℕ) → is_in_range 0xA0 0xBF b ≡ true → is_tail c ≡ true
+      → IsWide (0xE0 ∷ b ∷ c ∷ [])
+  three_low : (a b c : ℕ) → is_in_range 0xE1 0xEC a ≡ true → is_tail b ≡ true → is_tail c ≡ true
+      → IsWide (a ∷ b ∷ c ∷ [])
+  three_ed : (b c : ℕ) → is_in_range 0x80 0x9F b ≡ true → is_tail c ≡ true
+      → IsWide (0xED ∷ b ∷ c ∷ [])
+  three_high : (a b c : ℕ) → is_in_range 0xEE 0xEF a ≡ true → is_tail b ≡ true → is_tail c ≡ true
+      → IsWide (a ∷ b ∷ c ∷ [])
+  four_f0 : (b c d : ℕ) → is_in_range 0x90 0xBF b ≡ true → is_tail c ≡ true → is_tail d ≡ true
+      → IsWide (0xF0 ∷ b ∷ c ∷ d ∷ [])
+  four : (a b c d : ℕ) → is_in_range 0xF1 0xF3 a ≡ true → is_tail b ≡ true → is_tail c ≡ true
+      → is_tail d ≡ true → IsWide (a ∷ b ∷ c ∷ d ∷ [])
+  four_f4 : (b c d : ℕ) → is_in_range 0x80 0x8F b ≡ true → is_tail c ≡ true → is_tail d ≡ true
+      → IsWide (0xF4 ∷ b ∷ c ∷ d ∷ [])
 
 -- the code unit of a letter after a backslash: `"`, `\`, `/`, `b`, `f`, `n`, `r` and `t`
 abbrev pub unit_of : ℕ → Option ℕ
@@ -129,10 +140,14 @@ bytes (b ∷ bs) ps = byte b ∷ bytes bs ps
 -- what stands after a string's first quote, its last quote, and the rest
 pub data Chars : List ℕ → List ℕ → List Piece → Type 0 where
   last_quote : {rest : List ℕ} → Chars (34 ∷ rest) rest []
-  plain : {text rest : List ℕ} {ps : List Piece} (b : ℕ) → is_plain b ≡ true → Chars text rest ps → Chars (b ∷ text) rest (byte b ∷ ps)
-  wide : {text rest : List ℕ} {ps : List Piece} (c : List ℕ) → IsWide c → Chars text rest ps → Chars (c ++ text) rest (bytes c ps)
-  letter : {text rest : List ℕ} {ps : List Piece} (b u : ℕ) → unit_of b ≡ Some u → Chars text rest ps → Chars (92 ∷ b ∷ text) rest (unit u ∷ ps)
-  hex : {text rest : List ℕ} {ps : List Piece} (a b c d : ℕ) → is_hex a ≡ true → is_hex b ≡ true → is_hex c ≡ true → is_hex d ≡ true → Chars text rest ps
+  plain : {text rest : List ℕ} {ps : List Piece} (b : ℕ) → is_plain b ≡ true → Chars text rest ps
+      → Chars (b ∷ text) rest (byte b ∷ ps)
+  wide : {text rest : List ℕ} {ps : List Piece} (c : List ℕ) → IsWide c → Chars text rest ps
+      → Chars (c ++ text) rest (bytes c ps)
+  letter : {text rest : List ℕ} {ps : List Piece} (b u : ℕ) → unit_of b ≡ Some u
+      → Chars text rest ps → Chars (92 ∷ b ∷ text) rest (unit u ∷ ps)
+  hex : {text rest : List ℕ} {ps : List Piece} (a b c d : ℕ) → is_hex a ≡ true → is_hex b ≡ true
+      → is_hex c ≡ true → is_hex d ≡ true → Chars text rest ps
       → Chars (92 ∷ 117 ∷ a ∷ b ∷ c ∷ d ∷ text) rest (unit (hex_unit a b c d) ∷ ps)
 
 -- ---- sections 3 to 5: values, objects and arrays
@@ -147,53 +162,70 @@ mutual
   pub data Value : ℕ → List ℕ → List ℕ → Json → Type 0 where
     a_null : {n : ℕ} {rest : List ℕ} → Value n (110 ∷ 117 ∷ 108 ∷ 108 ∷ rest) rest null
     a_true : {n : ℕ} {rest : List ℕ} → Value n (116 ∷ 114 ∷ 117 ∷ 101 ∷ rest) rest (boolean true)
-    a_false : {n : ℕ} {rest : List ℕ} → Value n (102 ∷ 97 ∷ 108 ∷ 115 ∷ 101 ∷ rest) rest (boolean false)
-    a_number : {n : ℕ} {rest : List ℕ} (digits : List ℕ) → IsNumber digits → Value n (digits ++ rest) rest (number digits)
-    a_string : {n : ℕ} {text rest : List ℕ} {ps : List Piece} → Chars text rest ps → Value n (34 ∷ text) rest (string ps)
-    an_array : {n : ℕ} {text rest : List ℕ} {xs : Jsons} → n < deepest → Items (suc n) text rest xs → Value n (91 ∷ text) rest (array xs)
-    an_object : {n : ℕ} {text rest : List ℕ} {fs : Fields} → n < deepest → Members (suc n) text rest fs → Value n (123 ∷ text) rest (object fs)
+    a_false : {n : ℕ} {rest : List ℕ}
+        → Value n (102 ∷ 97 ∷ 108 ∷ 115 ∷ 101 ∷ rest) rest (boolean false)
+    a_number : {n : ℕ} {rest : List ℕ} (digits : List ℕ) → IsNumber digits
+        → Value n (digits ++ rest) rest (number digits)
+    a_string : {n : ℕ} {text rest : List ℕ} {ps : List Piece} → Chars text rest ps
+        → Value n (34 ∷ text) rest (string ps)
+    an_array : {n : ℕ} {text rest : List ℕ} {xs : Jsons} → n < deepest → Items (suc n) text rest xs
+        → Value n (91 ∷ text) rest (array xs)
+    an_object : {n : ℕ} {text rest : List ℕ} {fs : Fields} → n < deepest
+        → Members (suc n) text rest fs → Value n (123 ∷ text) rest (object fs)
 
   -- one value within an array, and after it
   pub data Item : ℕ → List ℕ → List ℕ → Json → Type 0 where
-    an_item : {n : ℕ} {text start rest : List ℕ} {x : Json} → Spaces text start → Value n start rest x → Item n text rest x
+    an_item : {n : ℕ} {text start rest : List ℕ} {x : Json} → Spaces text start
+        → Value n start rest x → Item n text rest x
 
   -- what stands after `[`, with `]`
   pub data Items : ℕ → List ℕ → List ℕ → Jsons → Type 0 where
     no_items : {n : ℕ} {text rest : List ℕ} → Spaces text (93 ∷ rest) → Items n text rest no_json
-    some_items : {n : ℕ} {text rest : List ℕ} {xs : Jsons} → ItemList n text rest xs → Items n text rest xs
+    some_items : {n : ℕ} {text rest : List ℕ} {xs : Jsons} → ItemList n text rest xs
+        → Items n text rest xs
 
   -- one item and more of them, with `]`
   pub data ItemList : ℕ → List ℕ → List ℕ → Jsons → Type 0 where
-    item_list : {n : ℕ} {text behind rest : List ℕ} {x : Json} {xs : Jsons} → Item n text behind x → MoreItems n behind rest xs → ItemList n text rest (one_json x xs)
+    item_list : {n : ℕ} {text behind rest : List ℕ} {x : Json} {xs : Jsons} → Item n text behind x
+        → MoreItems n behind rest xs → ItemList n text rest (one_json x xs)
 
   -- what stands after an item, with `]`
   pub data MoreItems : ℕ → List ℕ → List ℕ → Jsons → Type 0 where
-    no_more_items : {n : ℕ} {text rest : List ℕ} → Spaces text (93 ∷ rest) → MoreItems n text rest no_json
-    more_items : {n : ℕ} {text comma rest : List ℕ} {xs : Jsons} → Spaces text (44 ∷ comma) → ItemList n comma rest xs → MoreItems n text rest xs
+    no_more_items : {n : ℕ} {text rest : List ℕ} → Spaces text (93 ∷ rest)
+        → MoreItems n text rest no_json
+    more_items : {n : ℕ} {text comma rest : List ℕ} {xs : Jsons} → Spaces text (44 ∷ comma)
+        → ItemList n comma rest xs → MoreItems n text rest xs
 
   -- a string, a colon and a value
   pub data Member : ℕ → List ℕ → List ℕ → List Piece → Json → Type 0 where
-    a_member : {n : ℕ} {text key colon mark rest : List ℕ} {ps : List Piece} {x : Json} → Spaces text (34 ∷ key) → Chars key colon ps → Spaces colon (58 ∷ mark)
+    a_member : {n : ℕ} {text key colon mark rest : List ℕ} {ps : List Piece} {x : Json}
+        → Spaces text (34 ∷ key) → Chars key colon ps → Spaces colon (58 ∷ mark)
         → Item n mark rest x → Member n text rest ps x
 
   -- what stands after `{`, with `}`
   pub data Members : ℕ → List ℕ → List ℕ → Fields → Type 0 where
-    no_members : {n : ℕ} {text rest : List ℕ} → Spaces text (125 ∷ rest) → Members n text rest no_field
-    some_members : {n : ℕ} {text rest : List ℕ} {fs : Fields} → MemberList n text rest fs → Members n text rest fs
+    no_members : {n : ℕ} {text rest : List ℕ} → Spaces text (125 ∷ rest)
+        → Members n text rest no_field
+    some_members : {n : ℕ} {text rest : List ℕ} {fs : Fields} → MemberList n text rest fs
+        → Members n text rest fs
 
   -- one member and more of them, with `}`
   pub data MemberList : ℕ → List ℕ → List ℕ → Fields → Type 0 where
-    member_list : {n : ℕ} {text behind rest : List ℕ} {ps : List Piece} {x : Json} {fs : Fields} → Member n text behind ps x → MoreMembers n behind rest fs
+    member_list : {n : ℕ} {text behind rest : List ℕ} {ps : List Piece} {x : Json} {fs : Fields}
+        → Member n text behind ps x → MoreMembers n behind rest fs
         → MemberList n text rest (one_field ps x fs)
 
   -- what stands after a member, with `}`
   pub data MoreMembers : ℕ → List ℕ → List ℕ → Fields → Type 0 where
-    no_more_members : {n : ℕ} {text rest : List ℕ} → Spaces text (125 ∷ rest) → MoreMembers n text rest no_field
-    more_members : {n : ℕ} {text comma rest : List ℕ} {fs : Fields} → Spaces text (44 ∷ comma) → MemberList n comma rest fs → MoreMembers n text rest fs
+    no_more_members : {n : ℕ} {text rest : List ℕ} → Spaces text (125 ∷ rest)
+        → MoreMembers n text rest no_field
+    more_members : {n : ℕ} {text comma rest : List ℕ} {fs : Fields} → Spaces text (44 ∷ comma)
+        → MemberList n comma rest fs → MoreMembers n text rest fs
 
 -- a JSON text and what it says: one value with white space around it
 pub data Spells : List ℕ → Json → Type 0 where
-  spells : {text behind : List ℕ} {x : Json} → Item 0 text behind x → Spaces behind [] → Spells text x
+  spells : {text behind : List ℕ} {x : Json} → Item 0 text behind x → Spaces behind []
+      → Spells text x
 
 -- the text is a JSON text
 abbrev pub IsJson : List ℕ → Type 0

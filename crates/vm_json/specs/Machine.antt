@@ -50,7 +50,8 @@ behind_lead b =
     if is_in_range 0xC2 0xDF b then Some OneTail
     else (if b == 0xE0 then Some BehindE0 else (if b == 0xED then Some BehindED
     else (if is_in_range 0xE1 0xEF b then Some TwoTails else (if b == 0xF0 then Some BehindF0
-    else (if is_in_range 0xF1 0xF3 b then Some ThreeTails else (if b == 0xF4 then Some BehindF4 else None))))))
+    else (if is_in_range 0xF1 0xF3 b then Some ThreeTails
+    else (if b == 0xF4 then Some BehindF4 else None))))))
 
 -- after a byte between characters
 abbrev pub behind_plain : ℕ → Option Within
@@ -213,7 +214,8 @@ by_phase Key inside b = key inside (symbol_of b)
 by_phase BehindKey inside b = behind_key inside (symbol_of b)
 by_phase Behind inside b = behind inside (symbol_of b)
 by_phase (InString a_key w) inside b = option_map (λ phase. at phase inside) (in_string a_key w b)
-by_phase (InNumber digits) inside b = in_number digits inside (symbol_of b) (in_digits (symbol_of b) digits)
+by_phase (InNumber digits) inside b =
+    in_number digits inside (symbol_of b) (in_digits (symbol_of b) digits)
 by_phase (InWord word) inside b = option_map (λ phase. at phase inside) (in_word word b)
 
 -- where a byte leads to from this state

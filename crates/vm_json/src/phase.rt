@@ -308,7 +308,8 @@ fn key(symbol: Symbol) -> Option<Phase>
 
 /// After a key.
 fn behind_key(symbol: Symbol) -> Option<Phase>
-    ensures { (inside : List Bracket) → option_map (λ p. at p inside) result ≡ behind_key inside symbol }
+    ensures { (inside : List Bracket)
+        → option_map (λ p. at p inside) result ≡ behind_key inside symbol }
 {
     match symbol {
         Symbol::Space => Some(Phase::BehindKey),

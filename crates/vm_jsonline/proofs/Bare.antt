@@ -15,7 +15,8 @@ bare [] none = refl
 bare (b ∷ more) none = go (b == 92) refl (bare more (λ k below is. none (suc k) (omega arith) is))
   where
     go : (t : Bool) → (b == 92) ≡ t → raw_text more ≡ Some more
-        → text_from None (cond t (pieces Slash more) (byte b ∷ pieces Nothing more)) ≡ Some (b ∷ more)
+        → text_from None (cond t (pieces Slash more) (byte b ∷ pieces Nothing more))
+        ≡ Some (b ∷ more)
     go true is rest = absurd (none 0 (omega arith) is)
     go false is rest = ap (option_map (λ t. b ∷ t)) rest
 

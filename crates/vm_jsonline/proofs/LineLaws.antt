@@ -27,37 +27,47 @@ data Match : Option (List ℕ) → Option Json → Type 0 where
 
 data Matches : List (List ℕ) → List Json → Type 0 where
   no_match : Matches [] []
-  a_match : {text : List ℕ} {texts : List (List ℕ)} {x : Json} {xs : List Json} → Says text x → Matches texts xs → Matches (text ∷ texts) (x ∷ xs)
+  a_match : {text : List ℕ} {texts : List (List ℕ)} {x : Json} {xs : List Json} → Says text x
+      → Matches texts xs → Matches (text ∷ texts) (x ∷ xs)
 
-choose : (t u : Bool) (text : List ℕ) (texts : List (List ℕ)) (x : Json) (xs : List Json) → t ≡ u → Says text x → Matches texts xs → Matches (cond t (text ∷ texts) texts) (cond u (x ∷ xs) xs)
+choose : (t u : Bool) (text : List ℕ) (texts : List (List ℕ)) (x : Json) (xs : List Json) → t ≡ u
+    → Says text x → Matches texts xs → Matches (cond t (text ∷ texts) texts) (cond u (x ∷ xs) xs)
 choose true true text texts x xs same says more = a_match says more
 choose false false text texts x xs same says more = more
 choose true false text texts x xs same says more = absurd (cc same)
 choose false true text texts x xs same says more = absurd (cc same)
 
-values_match : (name : List ℕ) (parts : List Part) (fs : Fields) → PartsSay parts fs → Matches (parts_at name parts) (values_at name (members_of fs))
+values_match : (name : List ℕ) (parts : List Part) (fs : Fields) → PartsSay parts fs
+    → Matches (parts_at name parts) (values_at name (members_of fs))
 values_match name _ _ no_part_said = no_match
 values_match name _ _ (part_said {p = p} {parts = parts} {ps = ps} {x = x} {fs = fs} says more) =
-    choose (is_text name (string_reading p.key)) (is_text name (text_of ps)) p.value (parts_at name parts) x (values_at name (members_of fs))
+    choose (is_text name (string_reading p.key)) (is_text name (text_of ps)) p.value
+    (parts_at name parts) x (values_at name (members_of fs))
     (ap (is_text name) says.key) says.value (values_match name parts fs more)
 
-once_match : (texts : List (List ℕ)) (xs : List Json) → Matches texts xs → Match (once texts) (once xs)
+once_match : (texts : List (List ℕ)) (xs : List Json) → Matches texts xs
+    → Match (once texts) (once xs)
 once_match _ _ no_match = neither
 once_match _ _ (a_match says no_match) = found says
 once_match _ _ (a_match says (a_match other more)) = neither
 
-only_match : (name : List ℕ) (parts : List Part) (fs : Fields) → PartsSay parts fs → Match (only_part name parts) (once (values_at name (members_of fs)))
+only_match : (name : List ℕ) (parts : List Part) (fs : Fields) → PartsSay parts fs
+    → Match (only_part name parts) (once (values_at name (members_of fs)))
 unfolding only_part
-only_match name parts fs say = once_match (parts_at name parts) (values_at name (members_of fs)) (values_match name parts fs say)
+only_match name parts fs say =
+    once_match (parts_at name parts) (values_at name (members_of fs))
+    (values_match name parts fs say)
 
-bind : {A : Type 0} (f : List ℕ → Option A) (g : Json → Option A) (o : Option (List ℕ)) (q : Option Json) → Match o q → ((text : List ℕ) (x : Json) → Says text x → f text ≡ g x)
+bind : {A : Type 0} (f : List ℕ → Option A) (g : Json → Option A) (o : Option (List ℕ))
+    (q : Option Json) → Match o q → ((text : List ℕ) (x : Json) → Says text x → f text ≡ g x)
     → option_and_then f o ≡ option_and_then g q
 bind f g _ _ neither same = refl
 bind f g _ _ (found {text = text} {x = x} says) same = same text x says
 
 -- ---- rows
 
-parts_same : (parts : List Part) (fs : Fields) → PartsSay parts fs → parts_rows parts ≡ member_rows sample_reading (members_of fs)
+parts_same : (parts : List Part) (fs : Fields) → PartsSay parts fs
+    → parts_rows parts ≡ member_rows sample_reading (members_of fs)
 unfolding parts_rows
 parts_same parts fs say =
     bind _ _ _ _ (only_match (codes "metric") parts fs say) (λ metric m is_metric.
@@ -65,22 +75,27 @@ parts_same parts fs say =
     bind _ _ _ _ (only_match (codes "timestamps") parts fs say) (λ stamps t is_stamps.
     rw (pairs_are is_metric.value, samples_are is_values.value, times_are is_stamps.value) refl)))
 
-rows_are : {n : ℕ} {text rest : List ℕ} {x : Json} → Value n text rest x → rows_reading text ≡ rows_in sample_reading x
+rows_are : {n : ℕ} {text rest : List ℕ} {x : Json} → Value n text rest x
+    → rows_reading text ≡ rows_in sample_reading x
 unfolding rows_reading
 rows_are a_null = refl
 rows_are a_true = refl
 rows_are a_false = refl
-rows_are (a_number {rest = rest} digits is) = ap (option_and_then (λ inner. parts_rows (all_members inner))) (number_no_bracket 123 digits rest (omega arith) is)
+rows_are (a_number {rest = rest} digits is) =
+    ap (option_and_then (λ inner. parts_rows (all_members inner)))
+    (number_no_bracket 123 digits rest (omega arith) is)
 rows_are (a_string chars) = refl
 rows_are (an_array few xs) = refl
-rows_are (an_object {text = text} {fs = fs} few ms) = parts_same (all_members text) fs (all_members_say ms)
+rows_are (an_object {text = text} {fs = fs} few ms) =
+    parts_same (all_members text) fs (all_members_say ms)
 
 -- ---- a line that is JSON
 
 some_there_is : (text : List ℕ) → (s : Starts text) → (length text == 0) ≡ false
 some_there_is text s = ap (λ t. length t == 0) s.parts ∙ grind (arith, nat_tests)
 
-pub line_said : (line : List ℕ) (x : Json) → Spells line x → short_reading line ≡ outcome sample_reading x
+pub line_said : (line : List ℕ) (x : Json) → Spells line x
+    → short_reading line ≡ outcome sample_reading x
 unfolding short_reading is_paired
 line_said line x (spells {behind = behind} (an_item {start = start} spaces value) end) =
     let s = value_starts value in
@@ -96,7 +111,8 @@ blank_from : (line : List ℕ) → length (behind_spaces line) ≡ 0 → Spaces 
 blank_from [] is = no_space
 blank_from (b ∷ line) is = go (is_space b) refl is (blank_from line)
   where
-    go : (t : Bool) → is_space b ≡ t → length (cond t (behind_spaces line) (b ∷ line)) ≡ 0 → (length (behind_spaces line) ≡ 0 → Spaces line []) → Spaces (b ∷ line) []
+    go : (t : Bool) → is_space b ≡ t → length (cond t (behind_spaces line) (b ∷ line)) ≡ 0
+        → (length (behind_spaces line) ≡ 0 → Spaces line []) → Spaces (b ∷ line) []
     go true white is more = a_space b white (more is)
     go false white is more = absurd (omega arith)
 
@@ -113,22 +129,27 @@ zero_not n is same = let yes : (n == 0) ≡ true = grind (arith, nat_tests) in a
 
 blank_said : (line : List ℕ) → Spaces line [] → short_reading line ≡ Nothing
 unfolding short_reading
-blank_said line is = let none : (length (behind_spaces line) == 0) ≡ true = ap (λ n. n == 0) (blank_to line is) in rw none refl
+blank_said line is = let none : (length (behind_spaces line) == 0) ≡ true =
+    ap (λ n. n == 0) (blank_to line is) in rw none refl
 
-broken_said : (line : List ℕ) (at : ℕ) → (length (behind_spaces line) == 0) ≡ false → wrong_place line ≡ Some at → short_reading line ≡ Skipped at
+broken_said : (line : List ℕ) (at : ℕ) → (length (behind_spaces line) == 0) ≡ false
+    → wrong_place line ≡ Some at → short_reading line ≡ Skipped at
 unfolding short_reading
 broken_said line at some is = rw (some, is) refl
 
 short_mean : (line : List ℕ) → length line ≤ 4194304 → IsReading line (short_reading line)
 short_mean line few = go (length (behind_spaces line) == 0) refl
   where
-    placed : (o : Option ℕ) → wrong_place line ≡ o → (length (behind_spaces line) == 0) ≡ false → IsReading line (short_reading line)
+    placed : (o : Option ℕ) → wrong_place line ≡ o → (length (behind_spaces line) == 0) ≡ false
+        → IsReading line (short_reading line)
     placed (Some at) is some =
         subst (IsReading line) (sym (broken_said line at some is))
-        (broken few (λ blank. zero_not (length (behind_spaces line)) some (blank_to line blank)) at (place_there line at is))
+        (broken few (λ blank. zero_not (length (behind_spaces line)) some (blank_to line blank)) at
+        (place_there line at is))
     placed None is some =
         let there = json_there line is in
-        subst (IsReading line) (sym (line_said line there.0 there.1)) (written few there.0 there.1 sample_reading says)
+        subst (IsReading line) (sym (line_said line there.0 there.1))
+        (written few there.0 there.1 sample_reading says)
 
     go : (t : Bool) → (length (behind_spaces line) == 0) ≡ t → IsReading line (short_reading line)
     go true none =
@@ -158,11 +179,14 @@ pub one_reading : (line : List ℕ) (said : JsonLine) → IsReading line said �
 one_reading line _ (too_long many) = sym (long_is line many)
 one_reading line _ (nothing few blank) = sym (short_is line few ∙ blank_said line blank)
 one_reading line _ (broken few not_blank at first) =
-    let some : (length (behind_spaces line) == 0) ≡ false = go (length (behind_spaces line) == 0) refl in
+    let some : (length (behind_spaces line) == 0) ≡ false =
+    go (length (behind_spaces line) == 0) refl in
     sym (short_is line few ∙ broken_said line at some (some_there line at first))
   where
-    go : (t : Bool) → (length (behind_spaces line) == 0) ≡ t → (length (behind_spaces line) == 0) ≡ false
-    go true none = absurd (not_blank (blank_from line (zero_from (length (behind_spaces line)) none)))
+    go : (t : Bool) → (length (behind_spaces line) == 0) ≡ t
+        → (length (behind_spaces line) == 0) ≡ false
+    go true none =
+        absurd (not_blank (blank_from line (zero_from (length (behind_spaces line)) none)))
     go false some = some
 one_reading line _ (written few x is read reads) =
     ap (λ f. outcome f x) (one_reader read reads) ∙ sym (short_is line few ∙ line_said line x is)

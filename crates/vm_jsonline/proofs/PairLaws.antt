@@ -40,18 +40,25 @@ space_slash b is = grind (arith, nat_tests)
 
 spaces_whole : {text rest : List ℕ} → Spaces text rest → Whole text ≡ Whole rest
 spaces_whole no_space = refl
-spaces_whole (a_space {text = text} b is more) = no_slash b text (space_slash b is) ∙ spaces_whole more
+spaces_whole (a_space {text = text} b is more) = no_slash b text (space_slash b is)
+    ∙ spaces_whole more
 
 -- ---- strings
 
-apart : (c : ℕ) (o p : Option (List ℕ)) (q : Bool) → is_some o ≡ (is_some p && q) → is_some (with_char c o) ≡ (is_some (with_char c p) && q)
+apart : (c : ℕ) (o p : Option (List ℕ)) (q : Bool) → is_some o ≡ (is_some p && q)
+    → is_some (with_char c o) ≡ (is_some (with_char c p) && q)
 apart c o p q is = go (is_char c)
   where
-    go : (t : Bool) → is_some (cond t (option_map (λ u. encode_utf8 c ++ u) o) None) ≡ (is_some (cond t (option_map (λ u. encode_utf8 c ++ u) p) None) && q)
-    go true = some_map (λ u. encode_utf8 c ++ u) o ∙ is ∙ ap (λ r. r && q) (sym (some_map (λ u. encode_utf8 c ++ u) p))
+    go : (t : Bool)
+        → is_some (cond t (option_map (λ u. encode_utf8 c ++ u) o) None)
+        ≡ (is_some (cond t (option_map (λ u. encode_utf8 c ++ u) p) None) && q)
+    go true = some_map (λ u. encode_utf8 c ++ u) o ∙ is
+        ∙ ap (λ r. r && q) (sym (some_map (λ u. encode_utf8 c ++ u) p))
     go false = refl
 
-two_parts : (h : Option ℕ) (ps qs : List Piece) → is_some (text_from h (ps ++ byte 34 ∷ qs)) ≡ (is_some (text_from h ps) && is_some (text_from None qs))
+two_parts : (h : Option ℕ) (ps qs : List Piece)
+    → is_some (text_from h (ps ++ byte 34 ∷ qs))
+    ≡ (is_some (text_from h ps) && is_some (text_from None qs))
 two_parts None [] qs = some_map (λ t. 34 ∷ t) (text_from None qs)
 two_parts (Some h) [] qs = refl
 two_parts None (byte b ∷ ps) qs =
@@ -60,21 +67,35 @@ two_parts None (byte b ∷ ps) qs =
 two_parts (Some h) (byte b ∷ ps) qs = refl
 two_parts None (unit u ∷ ps) qs = go (is_high u) (two_parts (Some u) ps qs) (two_parts None ps qs)
   where
-    go : (t : Bool) → is_some (text_from (Some u) (ps ++ byte 34 ∷ qs)) ≡ (is_some (text_from (Some u) ps) && is_some (text_from None qs))
-        → is_some (text_from None (ps ++ byte 34 ∷ qs)) ≡ (is_some (text_from None ps) && is_some (text_from None qs))
-        → is_some (cond t (text_from (Some u) (ps ++ byte 34 ∷ qs)) (with_char u (text_from None (ps ++ byte 34 ∷ qs))))
-        ≡ (is_some (cond t (text_from (Some u) ps) (with_char u (text_from None ps))) && is_some (text_from None qs))
+    go : (t : Bool)
+        → is_some (text_from (Some u) (ps ++ byte 34 ∷ qs))
+        ≡ (is_some (text_from (Some u) ps) && is_some (text_from None qs))
+        → is_some (text_from None (ps ++ byte 34 ∷ qs))
+        ≡ (is_some (text_from None ps) && is_some (text_from None qs))
+        → is_some
+        (cond t (text_from (Some u) (ps ++ byte 34 ∷ qs))
+        (with_char u (text_from None (ps ++ byte 34 ∷ qs))))
+        ≡ (is_some (cond t (text_from (Some u) ps) (with_char u (text_from None ps)))
+        && is_some (text_from None qs))
     go true high low = high
-    go false high low = apart u (text_from None (ps ++ byte 34 ∷ qs)) (text_from None ps) (is_some (text_from None qs)) low
+    go false high low =
+        apart u (text_from None (ps ++ byte 34 ∷ qs)) (text_from None ps)
+        (is_some (text_from None qs)) low
 two_parts (Some h) (unit u ∷ ps) qs = go (is_low u) (two_parts None ps qs)
   where
-    go : (t : Bool) → is_some (text_from None (ps ++ byte 34 ∷ qs)) ≡ (is_some (text_from None ps) && is_some (text_from None qs))
+    go : (t : Bool)
+        → is_some (text_from None (ps ++ byte 34 ∷ qs))
+        ≡ (is_some (text_from None ps) && is_some (text_from None qs))
         → is_some (cond t (with_char (joined h u) (text_from None (ps ++ byte 34 ∷ qs))) None)
-        ≡ (is_some (cond t (with_char (joined h u) (text_from None ps)) None) && is_some (text_from None qs))
-    go true low = apart (joined h u) (text_from None (ps ++ byte 34 ∷ qs)) (text_from None ps) (is_some (text_from None qs)) low
+        ≡ (is_some (cond t (with_char (joined h u) (text_from None ps)) None)
+        && is_some (text_from None qs))
+    go true low =
+        apart (joined h u) (text_from None (ps ++ byte 34 ∷ qs)) (text_from None ps)
+        (is_some (text_from None qs)) low
     go false low = refl
 
-string_whole : {text rest : List ℕ} {ps : List Piece} → Chars text rest ps → Whole (34 ∷ text) ≡ (is_some (text_of ps) && Whole rest)
+string_whole : {text rest : List ℕ} {ps : List Piece} → Chars text rest ps
+    → Whole (34 ∷ text) ≡ (is_some (text_of ps) && Whole rest)
 string_whole {text = text} {rest = rest} {ps = ps} chars =
     let s = chars_at chars in
     no_slash 34 text refl
@@ -93,52 +114,78 @@ after : (a b r : Bool) {t : Bool} (m : Bool) → t ≡ (a && m) → m ≡ (b && 
 after a b r m first second = first ∙ ap (λ x. a && x) second ∙ and_assoc a b r
 
 mutual
-  value_whole : {n : ℕ} {text rest : List ℕ} {x : Json} → Value n text rest x → Whole text ≡ (has_texts x && Whole rest)
-  value_whole (a_null {rest = rest}) = no_slashes (110 ∷ 117 ∷ 108 ∷ 108 ∷ []) rest (refl, (refl, (refl, (refl, tt))))
-  value_whole (a_true {rest = rest}) = no_slashes (116 ∷ 114 ∷ 117 ∷ 101 ∷ []) rest (refl, (refl, (refl, (refl, tt))))
-  value_whole (a_false {rest = rest}) = no_slashes (102 ∷ 97 ∷ 108 ∷ 115 ∷ 101 ∷ []) rest (refl, (refl, (refl, (refl, (refl, tt)))))
-  value_whole (a_number {rest = rest} digits is) = no_slashes digits rest (number_slashes digits (number_bytes digits is))
+  value_whole : {n : ℕ} {text rest : List ℕ} {x : Json} → Value n text rest x
+      → Whole text ≡ (has_texts x && Whole rest)
+  value_whole (a_null {rest = rest}) =
+      no_slashes (110 ∷ 117 ∷ 108 ∷ 108 ∷ []) rest (refl, (refl, (refl, (refl, tt))))
+  value_whole (a_true {rest = rest}) =
+      no_slashes (116 ∷ 114 ∷ 117 ∷ 101 ∷ []) rest (refl, (refl, (refl, (refl, tt))))
+  value_whole (a_false {rest = rest}) =
+      no_slashes (102 ∷ 97 ∷ 108 ∷ 115 ∷ 101 ∷ []) rest (refl, (refl, (refl, (refl, (refl, tt)))))
+  value_whole (a_number {rest = rest} digits is) =
+      no_slashes digits rest (number_slashes digits (number_bytes digits is))
   value_whole (a_string chars) = string_whole chars
   value_whole (an_array {text = text} few xs) = no_slash 91 text refl ∙ items_whole xs
   value_whole (an_object {text = text} few fs) = no_slash 123 text refl ∙ members_whole fs
 
-  pub item_whole : {n : ℕ} {text rest : List ℕ} {x : Json} → Item n text rest x → Whole text ≡ (has_texts x && Whole rest)
+  pub item_whole : {n : ℕ} {text rest : List ℕ} {x : Json} → Item n text rest x
+      → Whole text ≡ (has_texts x && Whole rest)
   item_whole (an_item spaces value) = spaces_whole spaces ∙ value_whole value
 
-  items_whole : {n : ℕ} {text rest : List ℕ} {xs : Jsons} → Items n text rest xs → Whole text ≡ (have_texts xs && Whole rest)
+  items_whole : {n : ℕ} {text rest : List ℕ} {xs : Jsons} → Items n text rest xs
+      → Whole text ≡ (have_texts xs && Whole rest)
   items_whole (no_items {rest = rest} spaces) = spaces_whole spaces ∙ no_slash 93 rest refl
   items_whole (some_items list) = item_list_whole list
 
-  item_list_whole : {n : ℕ} {text rest : List ℕ} {xs : Jsons} → ItemList n text rest xs → Whole text ≡ (have_texts xs && Whole rest)
+  item_list_whole : {n : ℕ} {text rest : List ℕ} {xs : Jsons} → ItemList n text rest xs
+      → Whole text ≡ (have_texts xs && Whole rest)
   item_list_whole (item_list {behind = behind} {rest = rest} {x = x} {xs = xs} item more) =
-      after (has_texts x) (have_texts xs) (Whole rest) (Whole behind) (item_whole item) (more_items_whole more)
+      after (has_texts x) (have_texts xs) (Whole rest) (Whole behind) (item_whole item)
+      (more_items_whole more)
 
-  more_items_whole : {n : ℕ} {text rest : List ℕ} {xs : Jsons} → MoreItems n text rest xs → Whole text ≡ (have_texts xs && Whole rest)
-  more_items_whole (no_more_items {rest = rest} spaces) = spaces_whole spaces ∙ no_slash 93 rest refl
-  more_items_whole (more_items {comma = comma} spaces list) = spaces_whole spaces ∙ no_slash 44 comma refl ∙ item_list_whole list
+  more_items_whole : {n : ℕ} {text rest : List ℕ} {xs : Jsons} → MoreItems n text rest xs
+      → Whole text ≡ (have_texts xs && Whole rest)
+  more_items_whole (no_more_items {rest = rest} spaces) = spaces_whole spaces
+      ∙ no_slash 93 rest refl
+  more_items_whole (more_items {comma = comma} spaces list) = spaces_whole spaces
+      ∙ no_slash 44 comma refl ∙ item_list_whole list
 
-  member_whole : {n : ℕ} {text rest : List ℕ} {ps : List Piece} {x : Json} → Member n text rest ps x → Whole text ≡ ((is_some (text_of ps) && has_texts x) && Whole rest)
-  member_whole (a_member {colon = colon} {mark = mark} {rest = rest} {ps = ps} {x = x} spaces chars colons item) =
-      after (is_some (text_of ps)) (has_texts x) (Whole rest) (Whole colon) (spaces_whole spaces ∙ string_whole chars)
+  member_whole : {n : ℕ} {text rest : List ℕ} {ps : List Piece} {x : Json} → Member n text rest ps x
+      → Whole text ≡ ((is_some (text_of ps) && has_texts x) && Whole rest)
+  member_whole
+      (a_member {colon = colon} {mark = mark} {rest = rest} {ps = ps} {x = x} spaces chars colons
+      item) =
+      after (is_some (text_of ps)) (has_texts x) (Whole rest) (Whole colon)
+      (spaces_whole spaces ∙ string_whole chars)
       (spaces_whole colons ∙ no_slash 58 mark refl ∙ item_whole item)
 
-  members_whole : {n : ℕ} {text rest : List ℕ} {fs : Fields} → Members n text rest fs → Whole text ≡ (fields_have_texts fs && Whole rest)
+  members_whole : {n : ℕ} {text rest : List ℕ} {fs : Fields} → Members n text rest fs
+      → Whole text ≡ (fields_have_texts fs && Whole rest)
   members_whole (no_members {rest = rest} spaces) = spaces_whole spaces ∙ no_slash 125 rest refl
   members_whole (some_members list) = member_list_whole list
 
-  member_list_whole : {n : ℕ} {text rest : List ℕ} {fs : Fields} → MemberList n text rest fs → Whole text ≡ (fields_have_texts fs && Whole rest)
-  member_list_whole (member_list {behind = behind} {rest = rest} {ps = ps} {x = x} {fs = fs} member more) =
-      after (is_some (text_of ps) && has_texts x) (fields_have_texts fs) (Whole rest) (Whole behind) (member_whole member) (more_members_whole more)
-      ∙ ap (λ b. b && Whole rest) (sym (and_assoc (is_some (text_of ps)) (has_texts x) (fields_have_texts fs)))
+  member_list_whole : {n : ℕ} {text rest : List ℕ} {fs : Fields} → MemberList n text rest fs
+      → Whole text ≡ (fields_have_texts fs && Whole rest)
+  member_list_whole
+      (member_list {behind = behind} {rest = rest} {ps = ps} {x = x} {fs = fs} member more) =
+      after (is_some (text_of ps) && has_texts x) (fields_have_texts fs) (Whole rest) (Whole behind)
+      (member_whole member) (more_members_whole more)
+      ∙ ap (λ b. b && Whole rest)
+      (sym (and_assoc (is_some (text_of ps)) (has_texts x) (fields_have_texts fs)))
 
-  more_members_whole : {n : ℕ} {text rest : List ℕ} {fs : Fields} → MoreMembers n text rest fs → Whole text ≡ (fields_have_texts fs && Whole rest)
-  more_members_whole (no_more_members {rest = rest} spaces) = spaces_whole spaces ∙ no_slash 125 rest refl
-  more_members_whole (more_members {comma = comma} spaces list) = spaces_whole spaces ∙ no_slash 44 comma refl ∙ member_list_whole list
+  more_members_whole : {n : ℕ} {text rest : List ℕ} {fs : Fields} → MoreMembers n text rest fs
+      → Whole text ≡ (fields_have_texts fs && Whole rest)
+  more_members_whole (no_more_members {rest = rest} spaces) = spaces_whole spaces
+      ∙ no_slash 125 rest refl
+  more_members_whole (more_members {comma = comma} spaces list) = spaces_whole spaces
+      ∙ no_slash 44 comma refl ∙ member_list_whole list
 
 -- the whole text
 and_true : (a : Bool) → (a && true) ≡ a
 and_true true = refl
 and_true false = refl
 
-pub text_whole : {text behind : List ℕ} {x : Json} → Item 0 text behind x → Spaces behind [] → Whole text ≡ has_texts x
-text_whole {x = x} item spaces = item_whole item ∙ ap (λ b. has_texts x && b) (spaces_whole spaces) ∙ and_true (has_texts x)
+pub text_whole : {text behind : List ℕ} {x : Json} → Item 0 text behind x → Spaces behind []
+    → Whole text ≡ has_texts x
+text_whole {x = x} item spaces = item_whole item ∙ ap (λ b. has_texts x && b) (spaces_whole spaces)
+    ∙ and_true (has_texts x)

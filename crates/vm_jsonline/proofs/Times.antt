@@ -17,4 +17,5 @@ large : (n : ℕ) → 2 ^ 48 ≤ n → (if nat_lt n (2 ^ 48) then Some n else No
 large n h = grind arith
 
 pub time_after-large : (read : ℕ) (digits : List ℕ) → 2 ^ 48 ≤ read → time_after read digits ≡ None
-time_after-large read digits h = large (digits_value_after 10 read digits) (omega (arith, grows read digits))
+time_after-large read digits h =
+    large (digits_value_after 10 read digits) (omega (arith, grows read digits))

@@ -15,9 +15,11 @@ use Rattle.vm_jsonline.specs.declared.line.JsonLine.TheVariants.{Nothing, Rows, 
 pub data IsReading (line : List ℕ) : JsonLine → Type 0 where
   too_long : 4194304 < length line → IsReading line (Skipped 4194304)
   nothing : length line ≤ 4194304 → Spaces line [] → IsReading line Nothing
-  broken : length line ≤ 4194304 → (Spaces line [] → ⊥) → (at : ℕ) → FirstWrong IsJson line at → IsReading line (Skipped at)
+  broken : length line ≤ 4194304 → (Spaces line [] → ⊥) → (at : ℕ) → FirstWrong IsJson line at
+      → IsReading line (Skipped at)
   written : length line ≤ 4194304 → (x : Json) → Spells line x
-      → (read : List ℕ → Result SampleText NumFault) → IsReader read → IsReading line (outcome read x)
+      → (read : List ℕ → Result SampleText NumFault) → IsReader read
+      → IsReading line (outcome read x)
 
 -- the rows of what a line means, none where it is skipped
 abbrev pub rows_said : JsonLine → Option (List Row)

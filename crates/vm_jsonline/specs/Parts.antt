@@ -13,7 +13,8 @@ behind_spaces (b ∷ more) = if is_space b then behind_spaces more else b ∷ mo
 abbrev pub quote_place : Bool → List ℕ → Option ℕ
 quote_place escaped [] = None
 quote_place escaped (b ∷ more) =
-    if not escaped && b == 34 then Some 0 else option_map suc (quote_place (not escaped && b == 92) more)
+    if not escaped && b == 34 then Some 0
+    else option_map suc (quote_place (not escaped && b == 92) more)
 
 -- what stands between the quotes, and the rest
 abbrev pub string_at : List ℕ → Option (List ℕ × List ℕ)
@@ -41,7 +42,8 @@ behind_value zero Outside (b ∷ more) =
 behind_value (suc depth) Outside (b ∷ more) =
     if is_closing b then behind_value depth Outside more
     else (if b == 34 then behind_value (suc depth) Inside more
-    else (if is_opening b then behind_value (suc (suc depth)) Outside more else behind_value (suc depth) Outside more))
+    else (if is_opening b then behind_value (suc (suc depth)) Outside more
+    else behind_value (suc depth) Outside more))
 
 -- whether a byte ends the value
 abbrev pub is_end : ℕ → Mode → ℕ → Bool
@@ -74,13 +76,15 @@ abbrev pub with_colon : List ℕ × List ℕ → Option MemberRead
 with_colon key =
     let colon = behind_spaces key.1 in
     let value = behind_spaces (drop 1 colon) in
-    if slice_index colon 0 == 58 then Some (record { key = key.0; value = value; rest = next_start value }) else None
+    if slice_index colon 0 == 58
+    then Some (record { key = key.0; value = value; rest = next_start value }) else None
 
 -- the member at the front, where one stands there
 unfoldable pub next_member : List ℕ → Option MemberRead
 next_member text =
     let quote = behind_spaces text in
-    if slice_index quote 0 == 34 then option_and_then with_colon (string_at (drop 1 quote)) else None
+    if slice_index quote 0 == 34 then option_and_then with_colon (string_at (drop 1 quote))
+    else None
 
 -- the item that was read, and those of the rest
 abbrev pub items_of : (List ℕ → List (List ℕ)) → Option (List ℕ × List ℕ) → List (List ℕ)

@@ -24,11 +24,15 @@ number_at text = take (prefix_len is_number_byte text) text
 -- the text of the string at the front, none where no string stands there
 unfoldable pub text_at : List ℕ → Option (List ℕ)
 text_at text =
-    if slice_index text 0 == 34 then option_and_then (λ s. string_reading s.0) (string_at (drop 1 text)) else None
+    if slice_index text 0 == 34
+    then option_and_then (λ s. string_reading s.0) (string_at (drop 1 text)) else None
 
 -- the label of a member, where its value is a string
 unfoldable pub pair_at : Part → Option Pair
-pair_at part = option_and_then (λ name. option_map (λ value. record { name = name; value = value }) (text_at part.value)) (string_reading part.key)
+pair_at part =
+    option_and_then
+    (λ name. option_map (λ value. record { name = name; value = value }) (text_at part.value))
+    (string_reading part.key)
 
 -- whether a byte begins a number
 abbrev pub begins_number : ℕ → Bool
@@ -38,8 +42,10 @@ begins_number b = is_ascii_digit b || b == 45
 unfoldable pub sample_at : List ℕ → Option (Option ℤ)
 sample_at text =
     if slice_index text 0 == 110 then Some None
-    else (if slice_index text 0 == 34 then option_and_then (λ t. no_value (sample_reading t)) (text_at text)
-    else (if begins_number (slice_index text 0) then value_of (sample_reading (number_at text)) else None))
+    else (if slice_index text 0 == 34
+    then option_and_then (λ t. no_value (sample_reading t)) (text_at text)
+    else (if begins_number (slice_index text 0) then value_of (sample_reading (number_at text))
+    else None))
 
 -- the time at the front, where it is one
 unfoldable pub time_at : List ℕ → Option ℕ
@@ -63,7 +69,8 @@ pairs_reading text = option_and_then (λ inner. all_of pair_at (all_members inne
 
 -- what the items of an array say
 unfoldable pub samples_reading : List ℕ → Option (List (Option ℤ))
-samples_reading text = option_and_then (λ inner. all_of sample_at (all_items inner)) (inside 91 text)
+samples_reading text =
+    option_and_then (λ inner. all_of sample_at (all_items inner)) (inside 91 text)
 
 -- the times of an array
 unfoldable pub times_reading : List ℕ → Option (List ℕ)
@@ -72,7 +79,8 @@ times_reading text = option_and_then (λ inner. all_of time_at (all_items inner)
 -- the texts that begin with the values of this key
 abbrev pub parts_at : List ℕ → List Part → List (List ℕ)
 parts_at name [] = []
-parts_at name (p ∷ ps) = if is_text name (string_reading p.key) then p.value ∷ parts_at name ps else parts_at name ps
+parts_at name (p ∷ ps) = if is_text name (string_reading p.key) then p.value ∷ parts_at name ps
+    else parts_at name ps
 
 -- the text that begins with the value of the one member with this key
 unfoldable pub only_part : List ℕ → List Part → Option (List ℕ)

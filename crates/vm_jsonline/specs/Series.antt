@@ -51,7 +51,8 @@ is_text name (Some text) = bytes_eq text name
 -- the values of the members with this key
 abbrev pub values_at : List ℕ → List Member → List Json
 values_at name [] = []
-values_at name (m ∷ ms) = if is_text name (text_of m.key) then m.value ∷ values_at name ms else values_at name ms
+values_at name (m ∷ ms) = if is_text name (text_of m.key) then m.value ∷ values_at name ms
+    else values_at name ms
 
 -- ---- labels
 
@@ -62,7 +63,10 @@ string_text _ = None
 
 -- the label of a member, where its value is a string
 abbrev pub pair_of : Member → Option Pair
-pair_of m = option_and_then (λ name. option_map (λ value. record { name = name; value = value }) (string_text m.value)) (text_of m.key)
+pair_of m =
+    option_and_then
+    (λ name. option_map (λ value. record { name = name; value = value }) (string_text m.value))
+    (text_of m.key)
 
 -- the labels of an object of strings
 abbrev pub pairs_of : Json → Option (List Pair)
@@ -111,7 +115,8 @@ small_time time = if nat_lt time (2 ^ 48) then Some time else None
 
 -- digits alone, at most 2^48 - 1
 abbrev pub time_in : List ℕ → Option ℕ
-time_in digits = if list_all is_ascii_digit digits then small_time (digits_value 10 digits) else None
+time_in digits = if list_all is_ascii_digit digits then small_time (digits_value 10 digits)
+    else None
 
 -- the time of a number, where the value is one
 abbrev pub time_of : Json → Option ℕ
@@ -130,11 +135,13 @@ abbrev pub rows_of : List Pair → List (Option ℤ) → List ℕ → List Row
 rows_of labels [] times = []
 rows_of labels (v ∷ vs) [] = []
 rows_of labels (None ∷ vs) (t ∷ ts) = rows_of labels vs ts
-rows_of labels (Some z ∷ vs) (t ∷ ts) = record { labels = labels; time = t; value = z } ∷ rows_of labels vs ts
+rows_of labels (Some z ∷ vs) (t ∷ ts) =
+    record { labels = labels; time = t; value = z } ∷ rows_of labels vs ts
 
 -- the rows of labels, values and times, of which the last two have to be as many
 abbrev pub series_rows : List (Option ℤ) → List ℕ → List Pair → Option (List Row)
-series_rows values times labels = if length values == length times then Some (rows_of labels values times) else None
+series_rows values times labels = if length values == length times
+    then Some (rows_of labels values times) else None
 
 infixl 10 ◌>>=◌
 -- one part and then another, none where one of them is none
@@ -178,7 +185,8 @@ abbrev mutual
   -- the same of the members of an object
   pub fields_have_texts : Fields → Bool
   fields_have_texts no_field = true
-  fields_have_texts (one_field key x fs) = is_some (text_of key) && (has_texts x && fields_have_texts fs)
+  fields_have_texts (one_field key x fs) =
+      is_some (text_of key) && (has_texts x && fields_have_texts fs)
 
 -- the rows, or else that the line is skipped at 0
 abbrev pub or_skipped : Option (List Row) → JsonLine

@@ -35,8 +35,10 @@ text_from None [] = Some []
 text_from (Some high) [] = None
 text_from None (byte b ∷ more) = option_map (λ t. b ∷ t) (text_from None more)
 text_from (Some high) (byte b ∷ more) = None
-text_from None (unit u ∷ more) = if is_high u then text_from (Some u) more else with_char u (text_from None more)
-text_from (Some high) (unit u ∷ more) = if is_low u then with_char (joined high u) (text_from None more) else None
+text_from None (unit u ∷ more) = if is_high u then text_from (Some u) more
+    else with_char u (text_from None more)
+text_from (Some high) (unit u ∷ more) = if is_low u
+    then with_char (joined high u) (text_from None more) else None
 
 -- the UTF-8 of these pieces, none where half a pair stands alone
 abbrev pub text_of : List Piece → Option (List ℕ)
@@ -58,7 +60,8 @@ with_digit value b = value % 0x1000 * 16 + digit_value b
 abbrev pub pieces : Pending → List ℕ → List Piece
 pieces pending [] = []
 pieces Nothing (b ∷ more) = if b == 92 then pieces Slash more else byte b ∷ pieces Nothing more
-pieces Slash (b ∷ more) = if b == 117 then pieces (Hexes 3 0) more else unit (letter_unit b) ∷ pieces Nothing more
+pieces Slash (b ∷ more) = if b == 117 then pieces (Hexes 3 0) more
+    else unit (letter_unit b) ∷ pieces Nothing more
 pieces (Hexes zero value) (b ∷ more) = unit (with_digit value b) ∷ pieces Nothing more
 pieces (Hexes (suc left) value) (b ∷ more) = pieces (Hexes left (with_digit value b)) more
 

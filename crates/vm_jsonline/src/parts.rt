@@ -94,7 +94,8 @@ fn is_closing(byte: u8) -> bool
 /// Where a byte leads to that doesn't end the value.
 fn turned(depth: usize, mode: Mode, byte: u8) -> (usize, Mode)
     requires { depth + 1 < 2 ^ 64 }
-    ensures next { (more : List ℕ) → is_end depth mode byte ≡ false → behind_value depth mode (byte ∷ more) ≡ behind_value result.0 result.1 more }
+    ensures next { (more : List ℕ) → is_end depth mode byte ≡ false
+        → behind_value depth mode (byte ∷ more) ≡ behind_value result.0 result.1 more }
     ensures near { result.0 ≤ depth + 1 }
 {
     match mode {
@@ -159,7 +160,8 @@ pub(crate) fn next_item(text: &[u8]) -> Option<Item<'_>>
 /// The next member of an object.
 #[tactic(auto, unfolding(crate::specs::Parts::next_member))]
 pub(crate) fn next_member(text: &[u8]) -> Option<Member<'_>>
-    ensures { option_map (λ m. record { key = m.key.now; value = m.value.now; rest = m.rest.now }) result ≡ next_member text.now }
+    ensures { option_map (λ m. record { key = m.key.now; value = m.value.now; rest = m.rest.now })
+        result ≡ next_member text.now }
 {
     match behind_spaces(text) {
         [b'"', quoted @ ..] => {
@@ -172,7 +174,8 @@ pub(crate) fn next_member(text: &[u8]) -> Option<Member<'_>>
 
 /// The member with this key, where a colon follows it.
 fn with_colon<'a>(key: &'a [u8], behind: &'a [u8]) -> Option<Member<'a>>
-    ensures { option_map (λ m. record { key = m.key.now; value = m.value.now; rest = m.rest.now }) result ≡ with_colon (key.now, behind.now) }
+    ensures { option_map (λ m. record { key = m.key.now; value = m.value.now; rest = m.rest.now })
+        result ≡ with_colon (key.now, behind.now) }
 {
     match behind_spaces(behind) {
         [b':', rest @ ..] => {

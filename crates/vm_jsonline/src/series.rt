@@ -39,7 +39,9 @@ pub(crate) fn read_rows(alloc: Global, text: &[u8]) -> Result<List<Row>, Stop>
 }
 
 fn parts_inside<'a>(alloc: Global, text: &'a [u8]) -> Result<Vec<Part<'a>>, AllocError>
-    ensures { IfOk result (λ parts. map (λ p. record { key = p.key.now; value = p.value.now }) parts.items ≡ all_members text.now) }
+    ensures { IfOk result
+        (λ parts. map (λ p. record { key = p.key.now; value = p.value.now }) parts.items
+        ≡ all_members text.now) }
 {
     let mut parts = Vec::new(alloc);
     let mut rest = text;
@@ -58,7 +60,8 @@ fn parts_inside<'a>(alloc: Global, text: &'a [u8]) -> Result<Vec<Part<'a>>, Allo
 
 #[tactic(auto, unfolding(crate::specs::Reading::parts_rows))]
 fn parts_rows(alloc: Global, parts: &[Part<'_>]) -> Result<List<Row>, Stop>
-    ensures { Gives (λ rows. rows) result (parts_rows (map (λ p. record { key = p.key.now; value = p.value.now }) parts.now)) }
+    ensures { Gives (λ rows. rows) result
+        (parts_rows (map (λ p. record { key = p.key.now; value = p.value.now }) parts.now)) }
 {
     let metric = only_part(alloc, parts, "metric")?;
     let values = only_part(alloc, parts, "values")?;
@@ -73,7 +76,9 @@ fn parts_rows(alloc: Global, parts: &[Part<'_>]) -> Result<List<Row>, Stop>
 /// The value of the one member with this key.
 #[tactic(auto, unfolding(crate::specs::Reading::only_part))]
 fn only_part<'a>(alloc: Global, parts: &[Part<'a>], name: &str) -> Result<&'a [u8], Stop>
-    ensures { Gives (λ value. value.now) result (only_part name.now (map (λ p. record { key = p.key.now; value = p.value.now }) parts.now)) }
+    ensures { Gives (λ value. value.now) result
+        (only_part name.now
+        (map (λ p. record { key = p.key.now; value = p.value.now }) parts.now)) }
 {
     let mut found = None;
     for part in parts {

@@ -219,7 +219,9 @@ fn push_raw(bytes: &mut Vec<u8>, raw: &[u8]) -> Result<bool, AllocError>
 
 /// Appends what is given, or says that half a pair stands alone.
 fn push_given(bytes: &mut Vec<u8>, given: Given) -> Result<bool, AllocError>
-    ensures { IfOk result (λ whole. (rest : Option (List ℕ)) → option_map (λ text. bytes.old.items ++ text) (given_of given rest)
+    ensures { IfOk result
+        (λ whole. (rest : Option (List ℕ))
+        → option_map (λ text. bytes.old.items ++ text) (given_of given rest)
         ≡ (if whole then option_map (λ text. bytes.new.items ++ text) rest else None)) }
 {
     match given {
@@ -251,7 +253,8 @@ pub(crate) fn is_paired(text: &[u8]) -> bool
 }
 
 fn is_lone(given: Given) -> bool
-    ensures { (rest : Option (List ℕ)) → is_some (given_of given rest) ≡ (if result then false else is_some rest) }
+    ensures { (rest : Option (List ℕ))
+        → is_some (given_of given rest) ≡ (if result then false else is_some rest) }
 {
     matches!(given, Given::Lone)
 }

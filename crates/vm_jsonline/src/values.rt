@@ -77,7 +77,8 @@ fn text_at(alloc: Global, text: &[u8]) -> Result<Option<Text>, AllocError>
 
 /// The text after a first quote.
 fn quoted_text(alloc: Global, quoted: &[u8]) -> Result<Option<Text>, AllocError>
-    ensures { IfOk result (λ found. found ≡ option_and_then (λ s. string_reading s.0) (string_in quoted.now)) }
+    ensures { IfOk result
+        (λ found. found ≡ option_and_then (λ s. string_reading s.0) (string_in quoted.now)) }
 {
     match string_at(quoted) {
         Some((raw, _)) => string_text(alloc, raw),

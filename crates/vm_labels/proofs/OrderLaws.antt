@@ -30,11 +30,13 @@ pair_eq-Decides p q = (same, itself)
     same : pair_eq p q ≡ true → p ≡ q
     same h =
         let both = both_true (bytes_eq p.name q.name) (bytes_eq p.value q.value) h in
-        ap₂ made ((bytes_eq-Decides p.name q.name).0 both.0) ((bytes_eq-Decides p.value q.value).0 both.1)
+        ap₂ made ((bytes_eq-Decides p.name q.name).0 both.0)
+        ((bytes_eq-Decides p.value q.value).0 both.1)
 
     itself : p ≡ q → pair_eq p q ≡ true
     itself e =
-        and_true (bytes_eq p.name q.name) (bytes_eq p.value q.value) ((bytes_eq-Decides p.name q.name).1 (ap (λ r. r.name) e))
+        and_true (bytes_eq p.name q.name) (bytes_eq p.value q.value)
+        ((bytes_eq-Decides p.name q.name).1 (ap (λ r. r.name) e))
         ((bytes_eq-Decides p.value q.value).1 (ap (λ r. r.value) e))
 
 pub label_eq-Decides : (a b : List Pair) → Decides (label_eq a b) (a ≡ b)
@@ -43,7 +45,8 @@ label_eq-Decides = pointwise_decides pair_eq-Decides
 -- pairs have an order
 pub pair_cmp-total : IsTotalOrder pair_cmp
 pair_cmp-total =
-    then_total (on_total (λ p. p.name) nat_list_cmp_total) (on_total (λ p. p.value) nat_list_cmp_total)
+    then_total (on_total (λ p. p.name) nat_list_cmp_total)
+    (on_total (λ p. p.value) nat_list_cmp_total)
 
 pub pairs_tied : (p q : Pair) → pair_cmp p q ≡ Equal → p ≡ q
 pairs_tied p q tie = (pair_eq-Decides p q).0 (pairs_tie p q ∙ ap is_eq tie)
@@ -52,8 +55,10 @@ pub pair_order : IsOrder is_in_pair_order
 pair_order = order_from_cmp pair_cmp pair_cmp-total pairs_tied
 
 -- what `sort` gives of a list of pairs
-pub sorted_from_pair_sort : (xs ys : List Pair) → IsPermutation xs ys → IsSorted pair_cmp ys → ys ≡ sorted is_in_pair_order xs
-sorted_from_pair_sort = sorted_from_sort pair_cmp pair_cmp-total is_in_pair_order (λ _ _. refl) pair_order
+pub sorted_from_pair_sort : (xs ys : List Pair) → IsPermutation xs ys → IsSorted pair_cmp ys
+    → ys ≡ sorted is_in_pair_order xs
+sorted_from_pair_sort =
+    sorted_from_sort pair_cmp pair_cmp-total is_in_pair_order (λ _ _. refl) pair_order
 
 -- label sets have an order, that of `cmp`
 pub label_cmp-total : IsTotalOrder label_cmp
@@ -66,5 +71,7 @@ pub label_order : IsOrder is_in_label_order
 label_order = order_from_cmp label_cmp label_cmp-total labels_tied
 
 -- what `sort` gives of a list of label sets
-pub sorted_from_label_sort : (xs ys : List (List Pair)) → IsPermutation xs ys → IsSorted label_cmp ys → ys ≡ sorted is_in_label_order xs
-sorted_from_label_sort = sorted_from_sort label_cmp label_cmp-total is_in_label_order (λ _ _. refl) label_order
+pub sorted_from_label_sort : (xs ys : List (List Pair)) → IsPermutation xs ys
+    → IsSorted label_cmp ys → ys ≡ sorted is_in_label_order xs
+sorted_from_label_sort =
+    sorted_from_sort label_cmp label_cmp-total is_in_label_order (λ _ _. refl) label_order

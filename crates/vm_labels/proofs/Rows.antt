@@ -29,19 +29,29 @@ json_row : Text.label_json (pair (codes "a") (codes "b") ∷ []) ≡ codes "{\"a
 unfolding pair escape_byte
 json_row = refl
 
-built_row : Labels.built (pair (codes "c") (codes "d") ∷ pair (codes "0") [] ∷ pair (codes "a") (codes "b") ∷ []) ≡ Ok (pair (codes "a") (codes "b") ∷ pair (codes "c") (codes "d") ∷ [])
+built_row :
+    Labels.built
+    (pair (codes "c") (codes "d") ∷ pair (codes "0") [] ∷ pair (codes "a") (codes "b") ∷ [])
+    ≡ Ok (pair (codes "a") (codes "b") ∷ pair (codes "c") (codes "d") ∷ [])
 unfolding pair
 built_row = refl
 
-bad_row : Labels.built (pair (codes "c") (codes "d") ∷ pair (codes "0") [] ∷ pair (codes "c") (codes "b") ∷ pair (codes "0") (codes "x") ∷ []) ≡ Err (BadName 3)
+bad_row :
+    Labels.built
+    (pair (codes "c") (codes "d") ∷ pair (codes "0") [] ∷ pair (codes "c") (codes "b")
+    ∷ pair (codes "0") (codes "x") ∷ []) ≡ Err (BadName 3)
 unfolding pair
 bad_row = refl
 
-twice_row : Labels.built (pair (codes "c") (codes "d") ∷ pair (codes "a") (codes "x") ∷ pair (codes "a") (codes "y") ∷ pair (codes "c") (codes "b") ∷ []) ≡ Err (TwiceNamed (codes "a"))
+twice_row :
+    Labels.built
+    (pair (codes "c") (codes "d") ∷ pair (codes "a") (codes "x") ∷ pair (codes "a") (codes "y")
+    ∷ pair (codes "c") (codes "b") ∷ []) ≡ Err (TwiceNamed (codes "a"))
 unfolding pair
 twice_row = refl
 
-bytes_row : label_set_bytes (pair (codes "a") (codes "bc") ∷ []) ≡ 0 ∷ 1 ∷ 0 ∷ 1 ∷ 97 ∷ 0 ∷ 2 ∷ 98 ∷ 99 ∷ []
+bytes_row : label_set_bytes (pair (codes "a") (codes "bc") ∷ []) ≡ 0 ∷ 1 ∷ 0 ∷ 1 ∷ 97 ∷ 0 ∷ 2 ∷ 98
+    ∷ 99 ∷ []
 unfolding pair
 bytes_row = refl
 
@@ -66,12 +76,20 @@ filter_of : List ℕ → FilterOp → List ℕ → Filter
 filter_of name op value = record { name = name; op = op; value = value }
 
 a_is_b : Selector
-a_is_b = record { lists = (filter_of (codes "a") Equal (codes "b") ∷ filter_of (codes "x") Equal [] ∷ []) ∷ (filter_of (codes "c") Matches (codes "d") ∷ []) ∷ [] }
+a_is_b =
+    record {
+      lists = (filter_of (codes "a") Equal (codes "b") ∷ filter_of (codes "x") Equal [] ∷ [])
+          ∷ (filter_of (codes "c") Matches (codes "d") ∷ []) ∷ [];
+    }
 
 one : List ℕ → List ℕ → List Pair
 one name value = pair name value ∷ []
 
-selected_row : selected bytes_eq a_is_b (one (codes "c") (codes "d") ∷ one (codes "a") (codes "b") ∷ one (codes "a") (codes "c") ∷ one (codes "c") (codes "d") ∷ (pair (codes "a") (codes "b") ∷ one (codes "x") (codes "y")) ∷ [])
+selected_row :
+    selected bytes_eq a_is_b
+    (one (codes "c") (codes "d") ∷ one (codes "a") (codes "b") ∷ one (codes "a") (codes "c")
+    ∷ one (codes "c") (codes "d") ∷ (pair (codes "a") (codes "b") ∷ one (codes "x") (codes "y"))
+    ∷ [])
     ≡ one (codes "a") (codes "b") ∷ one (codes "c") (codes "d") ∷ []
 unfolding pair filter_of a_is_b one
 selected_row = refl
@@ -80,6 +98,8 @@ absent_row : meets bytes_eq (filter_of (codes "x") Differs []) (one (codes "a") 
 unfolding pair filter_of one
 absent_row = refl
 
-not_matched_row : meets bytes_eq (filter_of (codes "a") MatchesNot (codes "b")) (one (codes "a") (codes "b")) ≡ false
+not_matched_row :
+    meets bytes_eq (filter_of (codes "a") MatchesNot (codes "b")) (one (codes "a") (codes "b"))
+    ≡ false
 unfolding pair filter_of one
 not_matched_row = refl

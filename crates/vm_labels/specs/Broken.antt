@@ -31,16 +31,21 @@ IsNumber field n = (n < 2 ^ 16) × (field ≡ to_be_bytes w16 n)
 -- it
 abbrev pub IsField : Next → List ℕ → Next → Type 0
 IsField a_number field later = (n : ℕ) × IsNumber field n × (later ≡ next_label n None)
-IsField (a_name_length more last) field later = (n : ℕ) × IsNumber field n × (later ≡ a_name more last n)
-IsField (a_name more last len) field later = (length field ≡ len) × (is_next_name last field ≡ true) × (later ≡ a_value_length more field)
-IsField (a_value_length more name) field later = (n : ℕ) × IsNumber field n × (later ≡ a_value more name n)
-IsField (a_value more name len) field later = (length field ≡ len) × (is_value field ≡ true) × (later ≡ next_label more (Some name))
+IsField (a_name_length more last) field later = (n : ℕ) × IsNumber field n
+    × (later ≡ a_name more last n)
+IsField (a_name more last len) field later = (length field ≡ len) × (is_next_name last field ≡ true)
+    × (later ≡ a_value_length more field)
+IsField (a_value_length more name) field later = (n : ℕ) × IsNumber field n
+    × (later ≡ a_value more name n)
+IsField (a_value more name len) field later = (length field ≡ len) × (is_value field ≡ true)
+    × (later ≡ next_label more (Some name))
 IsField the_end field later = ⊥
 
 -- fields one after the other, and what is awaited after them
 pub data Fields : Next → List ℕ → Next → Type 0 where
   no_field : {next : Next} → Fields next [] next
-  a_field : {next later last : Next} (field rest : List ℕ) → IsField next field later → Fields later rest last → Fields next (field ++ rest) last
+  a_field : {next later last : Next} (field rest : List ℕ) → IsField next field later
+      → Fields later rest last → Fields next (field ++ rest) last
 
 -- The fields up to the place keep their rules, and no field that keeps its rule stands there; nor
 -- do the bytes end there where they may.
@@ -49,16 +54,19 @@ pub record BreaksAt (next : Next) (bytes rest : List ℕ) : Type 0 where
   pub later : Next
   pub parts : bytes ≡ front ++ rest
   pub read : Fields next front later
-  pub broken : (field more : List ℕ) (behind : Next) → rest ≡ field ++ more → IsField later field behind → ⊥
+  pub broken : (field more : List ℕ) (behind : Next) → rest ≡ field ++ more
+      → IsField later field behind → ⊥
   pub not_done : later ≡ the_end → rest ≢ []
 
 -- the first wrong field begins at the place
 abbrev pub IsFirstBroken : List ℕ → ℕ → Type 0
-IsFirstBroken bytes at = (rest : List ℕ) × BreaksAt a_number bytes rest × (at ≡ length bytes - length rest)
+IsFirstBroken bytes at = (rest : List ℕ) × BreaksAt a_number bytes rest
+    × (at ≡ length bytes - length rest)
 
 -- no field is wrong, but the label set breaks a limit of an import
 abbrev pub IsOverLimit : List ℕ → ℕ → Type 0
-IsOverLimit bytes at = (pairs : List Pair) × IsLabels pairs × (bytes ≡ label_set_bytes pairs) × (limit_of pairs ≢ None) × (at ≡ 0)
+IsOverLimit bytes at = (pairs : List Pair) × IsLabels pairs × (bytes ≡ label_set_bytes pairs)
+    × (limit_of pairs ≢ None) × (at ≡ 0)
 
 -- why bytes are refused; nothing is said where memory ran out
 abbrev pub IsRefusal : ReadFault → List ℕ → Type 0

@@ -42,11 +42,13 @@ abbrev pub ◌>>=◌ : {A B : Type 0} → Result A ℕ → (A → Result B ℕ) 
 
 -- a number of two bytes, and what stands after it
 abbrev pub number_at : List ℕ → Result (ℕ × List ℕ) ℕ
-number_at bytes = if nat_lt (length bytes) 2 then Err (length bytes) else Ok (from_be_bytes w16 (take 2 bytes), drop 2 bytes)
+number_at bytes = if nat_lt (length bytes) 2 then Err (length bytes)
+    else Ok (from_be_bytes w16 (take 2 bytes), drop 2 bytes)
 
 -- so many bytes, and what stands after them
 abbrev pub cut_at : ℕ → List ℕ → Result (List ℕ × List ℕ) ℕ
-cut_at n bytes = if nat_lt (length bytes) n then Err (length bytes) else Ok (take n bytes, drop n bytes)
+cut_at n bytes = if nat_lt (length bytes) n then Err (length bytes)
+    else Ok (take n bytes, drop n bytes)
 
 -- a text, or a fault at the first of these bytes where it breaks its rule
 abbrev pub ruled : (List ℕ → Bool) → List ℕ → List ℕ × List ℕ → Result (List ℕ × List ℕ) ℕ
@@ -117,15 +119,19 @@ label_set_of bytes = placed (length bytes) (fields_of bytes)
 
 -- what is written is read again
 abbrev pub WrittenIsRead : Type 0
-WrittenIsRead = (pairs : List Pair) → HasBytes pairs → label_set_of (label_set_bytes pairs) ≡ Ok pairs
+WrittenIsRead = (pairs : List Pair) → HasBytes pairs
+    → label_set_of (label_set_bytes pairs) ≡ Ok pairs
 
 -- what is read was written
 abbrev pub ReadIsWritten : Type 0
-ReadIsWritten = (bytes : List ℕ) (pairs : List Pair) → ((i : ℕ) → slice_index bytes i < 256) → label_set_of bytes ≡ Ok pairs → HasBytes pairs × (bytes ≡ label_set_bytes pairs)
+ReadIsWritten = (bytes : List ℕ) (pairs : List Pair) → ((i : ℕ) → slice_index bytes i < 256)
+    → label_set_of bytes ≡ Ok pairs → HasBytes pairs × (bytes ≡ label_set_bytes pairs)
 
 -- the bytes of a label set are the front of no other's bytes
 abbrev pub NoneBeginsAnother : Type 0
-NoneBeginsAnother = (pairs others : List Pair) (more rest : List ℕ) → HasBytes pairs → HasBytes others → label_set_bytes pairs ++ more ≡ label_set_bytes others ++ rest → (pairs ≡ others) × (more ≡ rest)
+NoneBeginsAnother = (pairs others : List Pair) (more rest : List ℕ) → HasBytes pairs
+    → HasBytes others → label_set_bytes pairs ++ more ≡ label_set_bytes others ++ rest
+    → (pairs ≡ others) × (more ≡ rest)
 
 -- ---- what calls give
 

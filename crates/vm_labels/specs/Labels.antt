@@ -83,21 +83,25 @@ is_badly_named p = has_value p && not (is_name p.name)
 -- the name of the first pair whose name is among the earlier ones, or that of a pair before it
 abbrev pub twice_named : List (List ℕ) → List Pair → Option (List ℕ)
 twice_named earlier [] = None
-twice_named earlier (p ∷ ps) = if list_any (bytes_eq p.name) earlier then Some p.name else twice_named (p.name ∷ earlier) ps
+twice_named earlier (p ∷ ps) = if list_any (bytes_eq p.name) earlier then Some p.name
+    else twice_named (p.name ∷ earlier) ps
 
 -- the fault, where there is one
-abbrev pub unless : Option LabelFault → Result (List Pair) LabelFault → Result (List Pair) LabelFault
+abbrev pub unless : Option LabelFault → Result (List Pair) LabelFault
+    → Result (List Pair) LabelFault
 unless (Some fault) labels = Err fault
 unless None labels = labels
 
 -- pairs by name, unless two have one name
 abbrev pub ordered : List Pair → Result (List Pair) LabelFault
-ordered pairs = unless (option_map TwiceNamed (twice_named [] pairs)) (Ok (sorted is_in_pair_order pairs))
+ordered pairs =
+    unless (option_map TwiceNamed (twice_named [] pairs)) (Ok (sorted is_in_pair_order pairs))
 
 -- The label set of pairs in any order: those with a value, by name. A name that is none is told by
 -- its place among all of the pairs, and else a name that stands twice.
 abbrev pub built : List Pair → Result (List Pair) LabelFault
-built pairs = unless (option_map BadName (position is_badly_named pairs)) (ordered (filter has_value pairs))
+built pairs =
+    unless (option_map BadName (position is_badly_named pairs)) (ordered (filter has_value pairs))
 
 -- ---- changes
 
@@ -120,11 +124,14 @@ labels_without names = filter (keeps false names)
 
 -- the label set with the value at the name, or without the name where the value is empty
 abbrev pub labels_set : List ℕ → List ℕ → List Pair → List Pair
-labels_set name value pairs = if length value == 0 then labels_without (name ∷ []) pairs else sorted is_in_pair_order (record { name = name; value = value } ∷ labels_without (name ∷ []) pairs)
+labels_set name value pairs = if length value == 0 then labels_without (name ∷ []) pairs
+    else sorted is_in_pair_order
+    (record { name = name; value = value } ∷ labels_without (name ∷ []) pairs)
 
 -- the same, or the fault where the name is none
 abbrev pub labels_with : List ℕ → List ℕ → List Pair → Result (List Pair) LabelFault
-labels_with name value pairs = if is_name name then Ok (labels_set name value pairs) else Err (BadName 0)
+labels_with name value pairs = if is_name name then Ok (labels_set name value pairs)
+    else Err (BadName 0)
 
 -- ---- the limits of an import
 
@@ -135,7 +142,8 @@ is_too_long p = nat_lt 256 (length p.name) || nat_lt 4096 (length p.value)
 -- the first limit that a label set breaks: 1 to 40 labels, names of 256 bytes, values of 4,096
 -- bytes
 abbrev pub limit_of : List Pair → Option LimitFault
-limit_of pairs = if length pairs == 0 then Some NoLabel else if nat_lt 40 (length pairs) then Some (TooMany (length pairs)) else option_map TooLong (position is_too_long pairs)
+limit_of pairs = if length pairs == 0 then Some NoLabel else if nat_lt 40 (length pairs)
+    then Some (TooMany (length pairs)) else option_map TooLong (position is_too_long pairs)
 
 -- ---- what a call gives
 

@@ -7,7 +7,8 @@ use Rattle.vm_labels.specs.declared.pair.Pair.{Pair}
 
 -- a byte of a value: `\\`, `\"` and `\n` stand for a backslash, a quote and a line feed
 abbrev pub escaped_byte : ℕ → List ℕ
-escaped_byte b = if b == 92 then codes "\\\\" else if b == 34 then codes "\\\"" else if b == 10 then codes "\\n" else b ∷ []
+escaped_byte b = if b == 92 then codes "\\\\" else if b == 34 then codes "\\\"" else if b == 10
+    then codes "\\n" else b ∷ []
 
 -- `a="b"`. (Prometheus text format 0.0.4, "Line format")
 abbrev pub pair_text : Pair → List ℕ

@@ -8,7 +8,9 @@ use Rattle.vm_labels.specs.declared.pair.Pair.{Pair}
 
 -- two pairs are the same exactly where neither comes before the other
 pub pairs_tie : (p q : Pair) → pair_eq p q ≡ eq_by_cmp pair_cmp p q
-pairs_tie p q = both_tied _ _ (text_cmp p.name q.name) (text_cmp p.value q.value) (texts_ties p.name q.name) (texts_ties p.value q.value)
+pairs_tie p q =
+    both_tied _ _ (text_cmp p.name q.name) (text_cmp p.value q.value) (texts_ties p.name q.name)
+    (texts_ties p.value q.value)
 
 -- two label sets are the same exactly where neither comes before the other
 pub labels_tie : (a b : List Pair) → label_eq a b ≡ eq_by_cmp label_cmp a b

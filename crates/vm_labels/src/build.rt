@@ -88,7 +88,8 @@ fn is_below(name: &Text, other: &Text) -> bool
 
 /// The first pair whose name an earlier one has.
 fn twice_named(alloc: Global, pairs: &[Pair]) -> Result<Option<&Pair>, AllocError>
-    ensures { IfOk result (λ found. option_map (λ pair. pair.now.name) found ≡ twice_named [] pairs.now) }
+    ensures { IfOk result
+        (λ found. option_map (λ pair. pair.now.name) found ≡ twice_named [] pairs.now) }
 {
     let mut seen: BTreeSet<&str> = BTreeSet::new(alloc);
     for pair in pairs {

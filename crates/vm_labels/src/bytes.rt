@@ -67,7 +67,8 @@ impl Labels {
     /// that has none of these faults and breaks a limit of an import is `Broken` at 0.
     pub fn read(alloc: Global, bytes: &[u8]) -> Result<Labels, ReadFault>
         // What is read was written.
-        ensures found { IfOk result (λ pairs. HasBytes pairs × (bytes.now ≡ label_set_bytes pairs)) }
+        ensures found { IfOk result
+            (λ pairs. HasBytes pairs × (bytes.now ≡ label_set_bytes pairs)) }
         // What was written is read, unless memory runs out.
         ensures only { (pairs : List Pair) → HasBytes pairs → bytes.now ≡ label_set_bytes pairs
             → Reads result (Ok pairs) }
@@ -179,7 +180,8 @@ fn made(alloc: Global, name: &str, value: &str) -> Result<Pair, AllocError>
 /// The texts of a pair that stands after the last name, and the bytes after it.
 #[tactic(auto, unfolding(crate::specs::Bytes::pair_at))]
 fn pair_at<'a>(last: Option<&str>, bytes: &'a [u8]) -> Result<(&'a str, &'a str, &'a [u8]), Stop>
-    ensures { Takes (λ x. (record { name = x.0.now; value = x.1.now }, x.2.now)) result (pair_at (option_copied last.entry) bytes.now) }
+    ensures { Takes (λ x. (record { name = x.0.now; value = x.1.now }, x.2.now)) result
+        (pair_at (option_copied last.entry) bytes.now) }
 {
     let (name, rest) = name_at(last, bytes)?;
     let (value, rest) = value_at(rest)?;
@@ -189,7 +191,8 @@ fn pair_at<'a>(last: Option<&str>, bytes: &'a [u8]) -> Result<(&'a str, &'a str,
 /// A name that stands after the last one, and the bytes after it.
 #[tactic(auto, unfolding(crate::specs::Bytes::text_at))]
 fn name_at<'a>(last: Option<&str>, bytes: &'a [u8]) -> Result<(&'a str, &'a [u8]), Stop>
-    ensures { Takes (λ x. (x.0.now, x.1.now)) result (text_at (is_next_name (option_copied last.entry)) bytes.now) }
+    ensures { Takes (λ x. (x.0.now, x.1.now)) result
+        (text_at (is_next_name (option_copied last.entry)) bytes.now) }
 {
     let (len, rest) = number_at(bytes)?;
     let (name, after) = cut_at(len, rest)?;

@@ -49,7 +49,13 @@ numeral n some few = go (decimal n) refl
         let all = are_digits (decimal n) (decimal_is_IsNumeral n few).0.1 in
         let digits : IsDigits (b ∷ ds) = subst (λ d. IsDigits d) is all in
         let first : 48 < b = subst (λ d. 48 < get_or d 0 0) is (first_decimal n some few) in
-        record { first = b; rest = ds; parts = is; above = above_nought b digits.0 first; digits = all }
+        record {
+          first = b;
+          rest = ds;
+          parts = is;
+          above = above_nought b digits.0 first;
+          digits = all;
+        }
 
 -- some digits
 record Some_digits (ds : List ℕ) : Type 0 where
@@ -77,7 +83,8 @@ fraction_of (b ∷ ds) is = let all = is.digits in a_fraction b all.0 all.1
 
 exponent_of : (s : ℕ) (ds : List ℕ) → is_sign s ≡ true → Some_digits ds → IsExponent (101 ∷ s ∷ ds)
 exponent_of s [] signs is = let some = is.some in absurd (omega arith)
-exponent_of s (b ∷ ds) signs is = let all = is.digits in signed_exponent 101 s b refl signs all.0 all.1
+exponent_of s (b ∷ ds) signs is = let all =
+    is.digits in signed_exponent 101 s b refl signs all.0 all.1
 
 whole_only : (b : ℕ) (ds : List ℕ) → is_in_range 49 57 b ≡ true → IsDigits ds → Plain (b ∷ ds)
 whole_only b ds above all = record {
@@ -91,7 +98,8 @@ whole_only b ds above all = record {
 }
 
 -- the point among the digits
-point_among : (b : ℕ) (ds : List ℕ) (w : ℕ) → is_in_range 49 57 b ≡ true → IsDigits ds → 0 < w → w < length (b ∷ ds)
+point_among : (b : ℕ) (ds : List ℕ) (w : ℕ) → is_in_range 49 57 b ≡ true → IsDigits ds → 0 < w
+    → w < length (b ∷ ds)
     → Plain (take w (b ∷ ds) ++ codes "." ++ drop w (b ∷ ds))
 point_among b ds zero above all some less = absurd (omega arith)
 point_among b ds (suc w) above all some less = record {
@@ -113,7 +121,8 @@ below_one ds z is = record {
   w = codes "0";
   f = 46 ∷ (noughts z ++ ds);
   e = [];
-  parts = append_assoc (codes "0.") (noughts z) ds ∙ ap (λ t. codes "0" ++ t) (sym (append-nil (46 ∷ (noughts z ++ ds))));
+  parts = append_assoc (codes "0.") (noughts z) ds
+      ∙ ap (λ t. codes "0" ++ t) (sym (append-nil (46 ∷ (noughts z ++ ds))));
   a_whole = nought;
   a_fraction = fraction_of (noughts z ++ ds) (record {
     some = (let some = is.some in omega (arith, length-append (noughts z) ds));
@@ -122,7 +131,8 @@ below_one ds z is = record {
   an_exponent = no_exponent;
 }
 
-plain_is : (b : ℕ) (ds : List ℕ) (shift : ℕ) → is_in_range 49 57 b ≡ true → IsDigits (b ∷ ds) → Plain (plain (b ∷ ds) shift)
+plain_is : (b : ℕ) (ds : List ℕ) (shift : ℕ) → is_in_range 49 57 b ≡ true → IsDigits (b ∷ ds)
+    → Plain (plain (b ∷ ds) shift)
 plain_is b ds shift above all =
     ⊎_elim
     (λ (low : shift < 1000).
@@ -130,10 +140,13 @@ plain_is b ds shift above all =
     ⊎_elim
     (λ (some : 0 < length (b ∷ ds) + shift - 1000).
     let more : nat_lt 0 (length (b ∷ ds) + shift - 1000) ≡ true = grind (arith, nat_tests) in
-    rw (no, more) (point_among b ds (length (b ∷ ds) + shift - 1000) above all.1 some (omega arith)))
+    rw (no, more)
+    (point_among b ds (length (b ∷ ds) + shift - 1000) above all.1 some (omega arith)))
     (λ (none : length (b ∷ ds) + shift - 1000 ≤ 0).
     let less : nat_lt 0 (length (b ∷ ds) + shift - 1000) ≡ false = grind (arith, nat_tests) in
-    rw (no, less) (below_one (b ∷ ds) (1000 - (length (b ∷ ds) + shift)) (record { some = omega arith; digits = all })))
+    rw (no, less)
+    (below_one (b ∷ ds) (1000 - (length (b ∷ ds) + shift))
+    (record { some = omega arith; digits = all })))
     (cases_lt 0 (length (b ∷ ds) + shift - 1000)))
     (λ (high : 1000 ≤ shift).
     let yes : nat_le 1000 shift ≡ true = grind (arith, nat_tests) in
@@ -159,7 +172,8 @@ fraction_is b (d ∷ ds) all =
     let yes : nat_lt 1 (length (b ∷ d ∷ ds)) ≡ true = grind (arith, nat_tests) in
     rw yes (a_fraction d all.0 all.1)
 
-scientific_is : (b : ℕ) (ds : List ℕ) (place : ℕ) → is_in_range 49 57 b ≡ true → IsDigits ds → place < 2 ^ 64
+scientific_is : (b : ℕ) (ds : List ℕ) (place : ℕ) → is_in_range 49 57 b ≡ true → IsDigits ds
+    → place < 2 ^ 64
     → Plain (scientific (b ∷ ds) place)
 scientific_is b ds place above all few = record {
   w = b ∷ [];
@@ -177,15 +191,19 @@ size_is b ds shift above all few =
     go (nat_le 993 (length (b ∷ ds) + shift - 1) && nat_le (length (b ∷ ds) + shift - 1) 1020) refl
   where
     go : (near : Bool)
-        → (nat_le 993 (length (b ∷ ds) + shift - 1) && nat_le (length (b ∷ ds) + shift - 1) 1020) ≡ near
+        → (nat_le 993 (length (b ∷ ds) + shift - 1) && nat_le (length (b ∷ ds) + shift - 1) 1020)
+        ≡ near
         → Plain (size_text (b ∷ ds) shift)
     go true near = rw near (plain_is b ds shift above all)
     go false near = rw near (scientific_is b ds (length (b ∷ ds) + shift - 1) above all.1 few)
 
 -- with a sign
 signed_is : (minus : Bool) (text : List ℕ) → Plain text → IsNumber (sign minus ++ text)
-signed_is true text p = subst (λ t. IsNumber (45 ∷ t)) (sym p.parts) (negative p.w p.f p.e p.a_whole p.a_fraction p.an_exponent)
-signed_is false text p = subst IsNumber (sym p.parts) (positive p.w p.f p.e p.a_whole p.a_fraction p.an_exponent)
+signed_is true text p =
+    subst (λ t. IsNumber (45 ∷ t)) (sym p.parts)
+    (negative p.w p.f p.e p.a_whole p.a_fraction p.an_exponent)
+signed_is false text p =
+    subst IsNumber (sym p.parts) (positive p.w p.f p.e p.a_whole p.a_fraction p.an_exponent)
 
 pub only_whole : (w : List ℕ) → IsWhole w → IsNumber w
 only_whole w is = subst IsNumber (append-nil w) (positive w [] [] is no_fraction no_exponent)
@@ -203,7 +221,8 @@ by_parts minus size shift few high =
     let n = numeral size (omega arith) (omega arith) in
     let digits : IsDigits (n.first ∷ n.rest) = subst (λ d. IsDigits d) n.parts n.digits in
     let short : length (n.first ∷ n.rest) ≤ 18 =
-    subst (λ d. length d ≤ 18) n.parts (length-decimal-le 18 size (omega arith) few (omega arith)) in
+    subst (λ d. length d ≤ 18) n.parts
+    (length-decimal-le 18 size (omega arith) few (omega arith)) in
     rw no (signed_is minus (size_text (decimal size) shift)
     (subst (λ d. Plain (size_text d shift)) (sym n.parts)
     (size_is n.first n.rest shift n.above digits (omega arith)))))
@@ -216,5 +235,6 @@ value_number z is =
     let form = IsSampleForm-form_of z is in
     by_parts (form_of z).negative (form_of z).size (form_of z).shift form.few form.high
 
-pub value_again : (z : ℤ) → is_sample z ≡ true → value_of (sample_reading (number_text z)) ≡ Some (Some z)
+pub value_again : (z : ℤ) → is_sample z ≡ true
+    → value_of (sample_reading (number_text z)) ≡ Some (Some z)
 value_again z is = ap value_of (sample_printed z is)

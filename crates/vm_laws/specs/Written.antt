@@ -36,4 +36,5 @@ rows_again labels samples = Rows (map (row_of labels) samples)
 -- what is written is read again as its rows
 abbrev pub WrittenIsRead : Type 0
 WrittenIsRead =
-    (labels : List Pair) (samples : List Stamped) → CanBeRead labels samples → reading (series_text labels samples) ≡ rows_again labels samples
+    (labels : List Pair) (samples : List Stamped) → CanBeRead labels samples
+    → reading (series_text labels samples) ≡ rows_again labels samples

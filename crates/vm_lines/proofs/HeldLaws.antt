@@ -10,7 +10,8 @@ pub refilled : (before now : List ℕ) (from to n : ℕ) → from ≤ to → to 
     → drop from (take (to + n) now) ≡ drop from (take to before) ++ take n (drop to now)
 refilled before now from to n order within front =
     ap (drop from) (take-add to n now ∙ ap (λ bytes. bytes ++ take n (drop to now)) front)
-    ∙ drop-append-le from (take to before) (take n (drop to now)) (omega (arith, length-take to before))
+    ∙ drop-append-le from (take to before) (take n (drop to now))
+    (omega (arith, length-take to before))
 
 -- what stands at the front after bytes moved there
 pub moved : (bytes : List ℕ) (from to : ℕ) → from ≤ to → to ≤ length bytes

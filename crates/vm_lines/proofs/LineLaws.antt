@@ -29,7 +29,8 @@ some_piece [] is = omega (arith, ap length is)
 some_piece (byte ∷ front) is = go (byte == 10) is
   where
     go : (feed : Bool)
-        → cond feed ([] ∷ split (front ++ (10 ∷ []))) (onto_first byte (split (front ++ (10 ∷ [])))) ≡ [] → ⊥
+        → cond feed ([] ∷ split (front ++ (10 ∷ []))) (onto_first byte (split (front ++ (10 ∷ []))))
+        ≡ [] → ⊥
     go true is = omega (arith, ap length is)
     go false is = some_onto_first byte (split (front ++ (10 ∷ []))) is
 
@@ -73,7 +74,8 @@ split-append (byte ∷ front) more = go (byte == 10) (split-append front more) (
   where
     go : (feed : Bool) → split (front ++ (10 ∷ more)) ≡ split (front ++ (10 ∷ [])) ++ split more
         → (split (front ++ (10 ∷ [])) ≡ [] → ⊥)
-        → cond feed ([] ∷ split (front ++ (10 ∷ more))) (onto_first byte (split (front ++ (10 ∷ more))))
+        → cond feed ([] ∷ split (front ++ (10 ∷ more)))
+        (onto_first byte (split (front ++ (10 ∷ more))))
         ≡ cond feed ([] ∷ split (front ++ (10 ∷ []))) (onto_first byte (split (front ++ (10 ∷ []))))
         ++ split more
     go true is some = ap (λ pieces. [] ∷ pieces) is
@@ -108,9 +110,11 @@ pub joined-split : (front : List ℕ) → joined (split (front ++ (10 ∷ []))) 
 joined-split [] = refl
 joined-split (byte ∷ front) = go (byte == 10) refl (joined-split front) (some_piece front)
   where
-    go : (feed : Bool) → (byte == 10) ≡ feed → joined (split (front ++ (10 ∷ []))) ≡ front ++ (10 ∷ [])
+    go : (feed : Bool) → (byte == 10) ≡ feed → joined (split (front ++ (10 ∷ []))) ≡ front
+        ++ (10 ∷ [])
         → (split (front ++ (10 ∷ [])) ≡ [] → ⊥)
-        → joined (cond feed ([] ∷ split (front ++ (10 ∷ []))) (onto_first byte (split (front ++ (10 ∷ [])))))
+        → joined
+        (cond feed ([] ∷ split (front ++ (10 ∷ []))) (onto_first byte (split (front ++ (10 ∷ [])))))
         ≡ byte ∷ (front ++ (10 ∷ []))
     go true is same some = ap (λ rest. 10 ∷ rest) same
         ∙ ap (λ b. b ∷ (front ++ (10 ∷ []))) (sym (eqb-true byte 10 is))
@@ -154,17 +158,20 @@ clear_by_place (byte ∷ more) none_at = (
   clear_by_place more (λ k h is. none_at (suc k) (omega arith) is),
 )
 
-pub clear-append : (front back : List ℕ) → HasNoFeed front → HasNoFeed back → HasNoFeed (front ++ back)
+pub clear-append : (front back : List ℕ) → HasNoFeed front → HasNoFeed back
+    → HasNoFeed (front ++ back)
 clear-append [] back front_clear back_clear = back_clear
 clear-append (byte ∷ front) back front_clear back_clear =
     (front_clear.0, clear-append front back front_clear.1 back_clear)
 
 -- no line feed is found
-pub feed_missing : (bytes : List ℕ) → Nowhere (Passes (is_byte 10) bytes) 0 (length bytes) → HasNoFeed bytes
+pub feed_missing : (bytes : List ℕ) → Nowhere (Passes (is_byte 10) bytes) 0 (length bytes)
+    → HasNoFeed bytes
 feed_missing bytes nowhere = clear_by_place bytes (λ k below is. nowhere k (omega arith) below is)
 
 -- the first line feed is found
-pub feed_found : (bytes : List ℕ) (at : ℕ) → NoneBefore (Passes (is_byte 10) bytes) 0 (length bytes) at
+pub feed_found : (bytes : List ℕ) (at : ℕ)
+    → NoneBefore (Passes (is_byte 10) bytes) 0 (length bytes) at
     → Passes (is_byte 10) bytes at
     → IsFirstFeed bytes at
 feed_found bytes at before here = record {
@@ -214,7 +221,8 @@ line_ahead bytes more at found behind =
 pub clear_no_feed : (bytes : List ℕ) (at : ℕ) → HasNoFeed bytes → IsFirstFeed bytes at → ⊥
 clear_no_feed bytes at clear found = go bytes at clear found.within found.feed
   where
-    go : (bytes : List ℕ) (at : ℕ) → HasNoFeed bytes → at < length bytes → slice_index bytes at ≡ 10 → ⊥
+    go : (bytes : List ℕ) (at : ℕ) → HasNoFeed bytes → at < length bytes → slice_index bytes at ≡ 10
+        → ⊥
     go [] at clear within feed = omega arith
     go (byte ∷ more) zero clear within feed = true≢false (sym (eq-eqb byte 10 feed) ∙ clear.0)
     go (byte ∷ more) (suc at) clear within feed = go more at clear.1 (omega arith) feed

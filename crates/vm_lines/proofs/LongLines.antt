@@ -24,7 +24,8 @@ pub record IsLong (before now : Reading) (left_before left_now : Option (List �
   pub none : now.ahead ≡ []
 
 -- a line of so many bytes is too long, also without its carriage return
-too_long : (piece : List ℕ) → MAX_IMPORT_LINE + 1 < length piece → is_too_long (without_return piece) ≡ true
+too_long : (piece : List ℕ) → MAX_IMPORT_LINE + 1 < length piece
+    → is_too_long (without_return piece) ≡ true
 too_long piece long = go (slice_index piece (length piece - 1) == 13)
   where
     go : (b : Bool) → is_too_long (cond b (take (length piece - 1) piece) piece) ≡ true
@@ -34,46 +35,66 @@ too_long piece long = go (slice_index piece (length piece - 1) == 13)
 -- the bytes that were let go, and those of a piece behind them that are gone through
 long_moves : {before mid late : Reading} {left_before left_mid left_now : Option (List ℕ)} {n : ℕ}
     (now : Reading) (through : List ℕ) (l : IsLong before mid left_before left_mid)
-    → Takes mid late n left_mid left_now → now.taken ≡ late.taken → late.ahead ≡ through ++ now.ahead
+    → Takes mid late n left_mid left_now → now.taken ≡ late.taken → late.ahead ≡ through
+    ++ now.ahead
     → Moves before now left_before left_now (l.gone ++ through)
-long_moves {before} {mid} {late} {left_before} {left_mid} {left_now} now through l took same front = record {
-  piece = l.moves.piece ++ took.piece;
-  gives = gives_more left_before left_mid left_now l.moves.piece took.piece l.moves.gives took.gives;
-  counted = omega (arith, same, took.counted, l.moves.counted, took.many, length-append l.moves.piece took.piece);
-  behind = sym (append_assoc before.ahead l.moves.piece took.piece)
-      ∙ ap (λ front. front ++ took.piece) l.moves.behind
-      ∙ append_assoc l.gone mid.ahead took.piece
-      ∙ ap (λ back. l.gone ++ back) (sym took.behind ∙ front)
-      ∙ sym (append_assoc l.gone through now.ahead);
-}
+long_moves {before} {mid} {late} {left_before} {left_mid} {left_now} now through l took same front =
+    record {
+      piece = l.moves.piece ++ took.piece;
+      gives = gives_more left_before left_mid left_now l.moves.piece took.piece l.moves.gives
+          took.gives;
+      counted =
+          omega (
+            arith,
+            same,
+            took.counted,
+            l.moves.counted,
+            took.many,
+            length-append l.moves.piece took.piece,
+          );
+      behind = sym (append_assoc before.ahead l.moves.piece took.piece)
+          ∙ ap (λ front. front ++ took.piece) l.moves.behind
+          ∙ append_assoc l.gone mid.ahead took.piece
+          ∙ ap (λ back. l.gone ++ back) (sym took.behind ∙ front)
+          ∙ sym (append_assoc l.gone through now.ahead);
+    }
 
 -- more of it was let go
-pub long_more : {before mid late : Reading} {left_before left_mid left_now : Option (List ℕ)} {n : ℕ}
+pub long_more :
+    {before mid late : Reading} {left_before left_mid left_now : Option (List ℕ)} {n : ℕ}
     (now : Reading) → IsLong before mid left_before left_mid → Takes mid late n left_mid left_now
     → HasNoFeed late.ahead → now.ahead ≡ [] → now.taken ≡ late.taken
     → IsLong before now left_before left_now
 long_more {late = late} now l took clear none same = record {
   gone = l.gone ++ late.ahead;
-  moves = long_moves now late.ahead l took same (sym (ap (λ back. late.ahead ++ back) none ∙ append-nil late.ahead));
+  moves = long_moves now late.ahead l took same
+      (sym (ap (λ back. late.ahead ++ back) none ∙ append-nil late.ahead));
   clear = clear-append l.gone late.ahead l.clear clear;
   long = omega (arith, l.long, length-append l.gone late.ahead);
   none = none;
 }
 
 -- its line feed came
-pub long_feed_moves : {before mid late : Reading} {left_before left_mid left_now : Option (List ℕ)} {n at : ℕ}
-    (now : Reading) (l : IsLong before mid left_before left_mid) → Takes mid late n left_mid left_now
+pub long_feed_moves :
+    {before mid late : Reading} {left_before left_mid left_now : Option (List ℕ)} {n at : ℕ}
+    (now : Reading) (l : IsLong before mid left_before left_mid)
+    → Takes mid late n left_mid left_now
     → IsFirstFeed late.ahead at → now.ahead ≡ drop (at + 1) late.ahead → now.taken ≡ late.taken
     → Moves before now left_before left_now ((l.gone ++ take at late.ahead) ++ (10 ∷ []))
-long_feed_moves {before} {late = late} {left_before} {left_now = left_now} {at = at} now l took found behind same =
-    subst (Moves before now left_before left_now) (sym (append_assoc l.gone (take at late.ahead) (10 ∷ [])))
-    (long_moves now (take at late.ahead ++ (10 ∷ [])) l took same (line_ahead late.ahead now.ahead at found behind))
+long_feed_moves {before} {late = late} {left_before} {left_now = left_now} {at = at} now l took
+    found behind same =
+    subst (Moves before now left_before left_now)
+    (sym (append_assoc l.gone (take at late.ahead) (10 ∷ [])))
+    (long_moves now (take at late.ahead ++ (10 ∷ [])) l took same
+    (line_ahead late.ahead now.ahead at found behind))
 
-pub long_feed : {before mid late : Reading} {left_before left_mid left_now : Option (List ℕ)} {n at : ℕ}
+pub long_feed :
+    {before mid late : Reading} {left_before left_mid left_now : Option (List ℕ)} {n at : ℕ}
     (now : Reading) → IsLong before mid left_before left_mid → Takes mid late n left_mid left_now
     → IsFirstFeed late.ahead at → now.ahead ≡ drop (at + 1) late.ahead → now.taken ≡ late.taken
     → Reads TooLong before now left_before left_now
-long_feed {before} {late = late} {left_before} {left_now = left_now} {at = at} now l took found behind same =
+long_feed {before} {late = late} {left_before} {left_now = left_now} {at = at} now l took found
+    behind same =
     let piece : List ℕ = l.gone ++ take at late.ahead in (
       without_return piece,
       too_long piece (omega (arith, l.long, length-append l.gone (take at late.ahead))),
@@ -83,17 +104,22 @@ long_feed {before} {late = late} {left_before} {left_now = left_now} {at = at} n
     )
 
 -- the end of the input came
-pub long_end_moves : {before mid late : Reading} {left_before left_mid left_now : Option (List ℕ)} {n : ℕ}
-    (now : Reading) (l : IsLong before mid left_before left_mid) → Takes mid late n left_mid left_now → n ≡ 0
+pub long_end_moves :
+    {before mid late : Reading} {left_before left_mid left_now : Option (List ℕ)} {n : ℕ}
+    (now : Reading) (l : IsLong before mid left_before left_mid)
+    → Takes mid late n left_mid left_now → n ≡ 0
     → now.ahead ≡ [] → now.taken ≡ late.taken → Moves before now left_before left_now l.gone
-long_end_moves {before} {left_before = left_before} {left_now = left_now} now l took zero none same =
+long_end_moves {before} {left_before = left_before} {left_now = left_now} now l took zero none
+    same =
     subst (Moves before now left_before left_now) (append-nil l.gone)
     (long_moves now [] l took same (still took zero ∙ l.none ∙ sym none))
 
 pub long_end : {before mid late : Reading} {left_before left_mid left_now : Option (List ℕ)} {n : ℕ}
-    (now : Reading) → IsLong before mid left_before left_mid → Takes mid late n left_mid left_now → n ≡ 0
+    (now : Reading) → IsLong before mid left_before left_mid → Takes mid late n left_mid left_now
+    → n ≡ 0
     → now.ahead ≡ [] → now.taken ≡ late.taken
-    → Told left_mid (λ bytes. (n ≡ 0) ↔ (bytes ≡ [])) → Reads TooLong before now left_before left_now
+    → Told left_mid (λ bytes. (n ≡ 0) ↔ (bytes ≡ []))
+    → Reads TooLong before now left_before left_now
 long_end {before} {left_before = left_before} {left_now = left_now} now l took zero none same told =
     let some : l.gone ≡ [] → ⊥ = λ is. omega (arith, ap length is, l.long) in (
       without_return l.gone,

@@ -28,7 +28,8 @@ grows_nothing reading left = record {
 }
 
 -- one more piece came
-pub grows_more : {before mid now : Reading} {left_before left_mid left_now : Option (List ℕ)} {n : ℕ}
+pub grows_more :
+    {before mid now : Reading} {left_before left_mid left_now : Option (List ℕ)} {n : ℕ}
     → Grows before mid left_before left_mid → Takes mid now n left_mid left_now
     → Grows before now left_before left_now
 grows_more {before} {mid} {now} {left_before} {left_mid} {left_now} m took = record {
@@ -72,7 +73,10 @@ fewer {before} {now} {through = through} ahead within m some =
       length-append through now.ahead,
     )
 
-pub nearer : (step : Step) (ended : Bool) {before now : Reading} {left_before left_now : Option (List ℕ)} {through : List ℕ}
+pub nearer :
+    (step : Step)
+    (ended : Bool) {before now : Reading} {left_before left_now : Option (List ℕ)} {through :
+    List ℕ}
     → length before.ahead ≤ before.taken → now.taken ≤ 2 ^ 62
     → Moves before now left_before left_now through → GoesThrough (Ok step) ended through
     → GoesOn step before now
@@ -83,24 +87,33 @@ nearer End ended ahead within m goes = tt
 -- the end of a line
 
 -- the first line ahead is gone through
-pub line_moves : {before mid : Reading} {left_before left_now : Option (List ℕ)} {at : ℕ} (now : Reading)
+pub line_moves :
+    {before mid : Reading} {left_before left_now : Option (List ℕ)} {at : ℕ} (now : Reading)
     → Grows before mid left_before left_now → IsFirstFeed mid.ahead at
     → now.ahead ≡ drop (at + 1) mid.ahead → now.taken ≡ mid.taken
     → Moves before now left_before left_now (take at mid.ahead ++ (10 ∷ []))
 line_moves {mid = mid} {at = at} now m found behind same =
-    moves_on now (take at mid.ahead ++ (10 ∷ [])) m (line_ahead mid.ahead now.ahead at found behind) same
+    moves_on now (take at mid.ahead ++ (10 ∷ [])) m (line_ahead mid.ahead now.ahead at found behind)
+    same
 
 -- a piece between line feeds is a line, or one that is too long
-reads_piece : (step : Step) (before now : Reading) (left_before left_now : Option (List ℕ)) (piece : List ℕ)
+reads_piece :
+    (step : Step) (before now : Reading) (left_before left_now : Option (List ℕ)) (piece : List ℕ)
     → Shows step piece now.line
     → IsFirstLine (rest before left_before) (without_return piece) (rest now left_now)
     → Reads step before now left_before left_now
-reads_piece Line before now left_before left_now piece shows first =
-    (shows.1, first ∙ ap (λ line. option_map (λ bytes. line ∷ lines bytes) (rest now left_now)) (sym shows.0))
-reads_piece TooLong before now left_before left_now piece shows first = (without_return piece, shows, first)
+reads_piece Line before now left_before left_now piece shows first = (
+  shows.1,
+  first
+      ∙ ap (λ line. option_map (λ bytes. line ∷ lines bytes) (rest now left_now)) (sym shows.0),
+)
+reads_piece TooLong before now left_before left_now piece shows first =
+    (without_return piece, shows, first)
 reads_piece End before now left_before left_now piece shows first = absurd shows
 
-pub line_reads : (step : Step) {before mid : Reading} {left_before left_now : Option (List ℕ)} {at : ℕ} (now : Reading)
+pub line_reads :
+    (step : Step) {before mid : Reading} {left_before left_now : Option (List ℕ)} {at : ℕ}
+    (now : Reading)
     → Grows before mid left_before left_now → IsFirstFeed mid.ahead at
     → now.ahead ≡ drop (at + 1) mid.ahead → now.taken ≡ mid.taken
     → Shows step (take at mid.ahead) now.line → Reads step before now left_before left_now
@@ -112,8 +125,10 @@ line_reads step {before} {mid} {left_before} {left_now} {at} now m found behind 
 -- a line and its line feed are some bytes that a line feed ends
 pub line_through : (step : Step) (ended : Bool) (piece line front : List ℕ) → Shows step piece line
     → GoesThrough (Ok step) ended (front ++ (10 ∷ []))
-line_through Line ended piece line front shows = (omega (arith, length-append front (10 ∷ [])), inl (front, refl))
-line_through TooLong ended piece line front shows = (omega (arith, length-append front (10 ∷ [])), inl (front, refl))
+line_through Line ended piece line front shows =
+    (omega (arith, length-append front (10 ∷ [])), inl (front, refl))
+line_through TooLong ended piece line front shows =
+    (omega (arith, length-append front (10 ∷ [])), inl (front, refl))
 line_through End ended piece line front shows = absurd shows
 
 -- the end of the input
@@ -124,7 +139,8 @@ pub spent : {before now : Reading} {n : ℕ} {left_before left_now : Option (Lis
     → Told left_before (λ bytes. (n ≡ 0) ↔ (bytes ≡ [])) → IsSpent left_now
 spent {n = n} {left_before} {left_now} took zero told =
     let same : left_before ≡ left_now = took.gives
-    ∙ ap (λ piece. option_map (λ bytes. piece ++ bytes) left_now) (nil_from_length took.piece (took.many ∙ zero))
+    ∙ ap (λ piece. option_map (λ bytes. piece ++ bytes) left_now)
+    (nil_from_length took.piece (took.many ∙ zero))
     ∙ sym (gives_nothing left_now) in
     subst IsSpent same (go left_before told)
   where
@@ -164,16 +180,21 @@ end_reads End before mid now left_before left_now m clear spent none same below 
       omega (arith, same, below),
     )
 end_reads Line before mid now left_before left_now m clear spent none same below ends =
-    reads_piece Line before now left_before left_now mid.ahead ends.1 (last now m clear spent none same ends.0)
+    reads_piece Line before now left_before left_now mid.ahead ends.1
+    (last now m clear spent none same ends.0)
 end_reads TooLong before mid now left_before left_now m clear spent none same below ends =
-    reads_piece TooLong before now left_before left_now mid.ahead ends.1 (last now m clear spent none same ends.0)
+    reads_piece TooLong before now left_before left_now mid.ahead ends.1
+    (last now m clear spent none same ends.0)
 
-pub ended : (step : Step) {before mid late : Reading} {left_before left_mid left_now : Option (List ℕ)} {n : ℕ}
+pub ended :
+    (step : Step) {before mid late : Reading} {left_before left_mid left_now : Option (List ℕ)} {n :
+    ℕ}
     (now : Reading) → Grows before mid left_before left_mid → HasNoFeed mid.ahead
     → Takes mid late n left_mid left_now → n ≡ 0 → Told left_mid (λ bytes. (n ≡ 0) ↔ (bytes ≡ []))
     → mid.taken < 2 ^ 62 → now.ahead ≡ [] → now.taken ≡ late.taken → Ends step late.ahead now.line
     → Reads step before now left_before left_now
-ended step {before} {mid} {late} {left_before} {left_mid} {left_now} now m clear took zero told below none same ends =
+ended step {before} {mid} {late} {left_before} {left_mid} {left_now} now m clear took zero told
+    below none same ends =
     end_reads step before late now left_before left_now (grows_more m took)
     (subst HasNoFeed (sym (still took zero)) clear) (spent took zero told) none same
     (omega (arith, took.counted, zero, below)) ends
@@ -183,7 +204,8 @@ some_bytes [] some = absurd (some refl)
 some_bytes (byte ∷ more) some = omega arith
 
 -- what the end of the input ends is gone through
-pub end_through : (step : Step) (ended : Bool) (piece line : List ℕ) → Ends step piece line → ended ≡ true
+pub end_through : (step : Step) (ended : Bool) (piece line : List ℕ) → Ends step piece line
+    → ended ≡ true
     → GoesThrough (Ok step) ended piece
 end_through Line ended piece line ends is = (some_bytes piece ends.0, inr is)
 end_through TooLong ended piece line ends is = (some_bytes piece ends.0, inr is)

@@ -33,12 +33,13 @@ IsFirstLine before line now =
 abbrev pub IsSpent : Option (List ℕ) → Type 0
 IsSpent left = left ≡ option_map (λ _. []) left
 
--- a reader that met the end holds a source of which nothing is left, and took less than 2^62 bytes of it
+-- a reader that met the end holds a source of which nothing is left, and took less than 2^62 bytes
+-- of it
 abbrev pub KnowsEnd : Reading → Option (List ℕ) → Type 0
 KnowsEnd reading left = reading.ended ≡ true → IsSpent left × (reading.taken < 2 ^ 62)
 
--- What a call came to: the first line of what was to be read, a first line that is too long and isn't
--- shown, or the end of the input, which was met before 2^62 bytes were taken.
+-- What a call came to: the first line of what was to be read, a first line that is too long and
+-- isn't shown, or the end of the input, which was met before 2^62 bytes were taken.
 abbrev pub Reads : Step → Reading → Reading → Option (List ℕ) → Option (List ℕ) → Type 0
 Reads Line before now left_before left_now =
     (is_too_long now.line ≡ false)
@@ -60,8 +61,8 @@ GoesOn Line before now = to_go now < to_go before
 GoesOn TooLong before now = to_go now < to_go before
 GoesOn End before now = Unit {0}
 
--- What a call does to the bytes: a piece came from the source, and the bytes up to the new place were
--- gone through. None is lost, and none comes twice.
+-- What a call does to the bytes: a piece came from the source, and the bytes up to the new place
+-- were gone through. None is lost, and none comes twice.
 pub record Moves (before now : Reading) (left_before left_now : Option (List ℕ)) (through : List ℕ)
     : Type 0 where
   pub piece : List ℕ

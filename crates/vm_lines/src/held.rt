@@ -81,7 +81,8 @@ impl Held {
         &self.buffer[self.from..self.to]
     }
 
-    /// Makes the first `len` bytes ahead the present line, and goes on behind the first `used` ones.
+    /// Makes the first `len` bytes ahead the present line, and goes on behind the first `used`
+    /// ones.
     pub fn give(&mut self, len: usize, used: usize)
         requires len { len ≤ length self.old.ahead }
         requires used { used ≤ length self.old.ahead }
@@ -93,8 +94,8 @@ impl Held {
         self.from += used;
     }
 
-    /// Makes room for a piece: moves the bytes ahead to the front, and doubles the buffer where less than
-    /// a piece fits behind them. The present line is gone then.
+    /// Makes room for a piece: moves the bytes ahead to the front, and doubles the buffer where
+    /// less than a piece fits behind them. The present line is gone then.
     pub fn make_room(&mut self) -> Result<(), AllocError>
         requires { length self.old.ahead ≤ LONGEST }
         ensures room { OnOk result (0 < self.new.room) }

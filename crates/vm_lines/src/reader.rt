@@ -18,8 +18,9 @@ use vm_outside::{Failed, Source};
 
 /// A reader of an input's lines, which shows one at a time.
 ///
-/// It asks for pieces of at least 64 KiB and shows each line where it lies in its buffer. The buffer
-/// doubles only where a line is longer than a piece, and stays below three times `MAX_IMPORT_LINE`.
+/// It asks for pieces of at least 64 KiB and shows each line where it lies in its buffer. The
+/// buffer doubles only where a line is longer than a piece, and stays below three times
+/// `MAX_IMPORT_LINE`.
 #[derive(Drop)]
 pub struct LineReader {
     held: Held,
@@ -54,7 +55,8 @@ impl LineReader {
         LineReader::after(alloc, 0)
     }
 
-    /// A reader of what follows the first `taken` bytes of an input, which count as taken. Its line is empty.
+    /// A reader of what follows the first `taken` bytes of an input, which count as taken. Its line
+    /// is empty.
     pub fn after(alloc: Global, taken: u64) -> Result<LineReader, AllocError>
         requires { taken ≤ 2 ^ 62 }
         ensures { IfOk result (λ reader.
@@ -68,8 +70,8 @@ impl LineReader {
         })
     }
 
-    /// The line that `advance` came to, without its line feed and carriage return. What it shows after
-    /// another answer than `Line` is open.
+    /// The line that `advance` came to, without its line feed and carriage return. What it shows
+    /// after another answer than `Line` is open.
     pub fn line(&self) -> &[u8]
         ensures { result.now ≡ self.now.line }
     {
@@ -78,12 +80,12 @@ impl LineReader {
 
     /// Goes to the next line.
     ///
-    /// It reads from the input only where no whole line stands in the buffer, and shows all whole lines
-    /// of the first `MAX_INPUT` bytes before it answers `InputTooLong`. Once the end of the input was met,
-    /// the input is not read again, and after its last line each call answers `End`.
+    /// It reads from the input only where no whole line stands in the buffer, and shows all whole
+    /// lines of the first `MAX_INPUT` bytes before it answers `InputTooLong`. Once the end of the
+    /// input was met, the input is not read again, and after its last line each call answers `End`.
     ///
-    /// After an error another call may go on. No byte is lost but those of a line that is too long: where
-    /// the error came amid one, the next call takes the rest of it for a line.
+    /// After an error another call may go on. No byte is lost but those of a line that is too long:
+    /// where the error came amid one, the next call takes the rest of it for a line.
     pub fn advance<S: Source>(&mut self, input: &mut S) -> Result<Step, LineFault>
         // What `Ok` holds.
         ensures reads { KnowsEnd self.old (S.left input.old) → IfOk result (λ step.
@@ -130,8 +132,8 @@ impl LineReader {
         self.held.ahead()
     }
 
-    /// Shows the first `len` bytes ahead as a line, unless it is too long, and goes on behind the first
-    /// `used` ones.
+    /// Shows the first `len` bytes ahead as a line, unless it is too long, and goes on behind the
+    /// first `used` ones.
     fn give(&mut self, len: usize, used: usize) -> Step
         requires before_end { self.old.ended ≡ false }
         requires len { len ≤ length self.old.ahead }
@@ -252,8 +254,8 @@ impl LineReader {
         self.held.give(0, all);
     }
 
-    /// Goes on behind the first line feed, or behind all bytes where there is none. Answers whether there
-    /// is one.
+    /// Goes on behind the first line feed, or behind all bytes where there is none. Answers whether
+    /// there is one.
     fn skip_line(&mut self) -> bool
         requires before_end { self.old.ended ≡ false }
         ensures found { OnTrue result ((at : ℕ) × IsFirstFeed self.old.ahead at

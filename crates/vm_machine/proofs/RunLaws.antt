@@ -11,7 +11,8 @@ use Rattle.vm_machine.specs.declared.run.Run.{Run}
 
 -- one item more is changed in its place
 pub changed_one : {A : Type 0} (f : A → A) (xs : List A) (i : ℕ) (d : A) → i < length xs
-    → slice_set (map f (take i xs) ++ drop i xs) i (f (slice_index_or xs i d)) ≡ map f (take (i + 1) xs) ++ drop (i + 1) xs
+    → slice_set (map f (take i xs) ++ drop i xs) i (f (slice_index_or xs i d))
+    ≡ map f (take (i + 1) xs) ++ drop (i + 1) xs
 changed_one f [] i d within = absurd (omega arith)
 changed_one f (x ∷ xs) zero d within = refl
 changed_one f (x ∷ xs) (suc i) d within =
@@ -26,7 +27,9 @@ still_there f (x ∷ xs) zero d within = refl
 still_there f (x ∷ xs) (suc i) d within = still_there f xs i d (omega arith)
 
 -- a run is begun where its number is free and there is room
-pub begins-free : {Q A : Type 0} (meaning : Meaning Q A) (there : Option (Run Q)) (state : State Q) (number : ℕ) (question : Q)
+pub begins-free :
+    {Q A : Type 0} (meaning : Meaning Q A) (there : Option (Run Q)) (state : State Q) (number : ℕ)
+    (question : Q)
     → there ≡ None → nat_le 64 (length state.runs) ≡ false
     → begin_step meaning there state number question
     ≡ (record state { runs = state.runs ++ new_run meaning state number question ∷ [] }, Ok begun)
@@ -35,11 +38,13 @@ begins-free meaning (Some run) state number question free few = absurd cc
 
 -- the times of runs stay in range where a run is added, taken out or read, and each has such a time
 
-pub in_range-append : (runs : List (Run Question)) (run : Run Question) → AreInRange runs → run.question.time < 2 ^ 48 → AreInRange (runs ++ run ∷ [])
+pub in_range-append : (runs : List (Run Question)) (run : Run Question) → AreInRange runs
+    → run.question.time < 2 ^ 48 → AreInRange (runs ++ run ∷ [])
 in_range-append [] run are small = (small, tt)
 in_range-append (first ∷ runs) run are small = (are.0, in_range-append runs run are.1 small)
 
-pub in_range-filter : (p : Run Question → Bool) (runs : List (Run Question)) → AreInRange runs → AreInRange (filter p runs)
+pub in_range-filter : (p : Run Question → Bool) (runs : List (Run Question)) → AreInRange runs
+    → AreInRange (filter p runs)
 in_range-filter p [] are = tt
 in_range-filter p (run ∷ runs) are =
     elim (p run) as (λ b. AreInRange (cond b (run ∷ filter p runs) (filter p runs))) [
@@ -47,23 +52,31 @@ in_range-filter p (run ∷ runs) are =
       | false ↦ in_range-filter p runs are.1
     ]
 
-pub in_range-read : (number : ℕ) (runs : List (Run Question)) → AreInRange runs → AreInRange (map (read_more number) runs)
+pub in_range-read : (number : ℕ) (runs : List (Run Question)) → AreInRange runs
+    → AreInRange (map (read_more number) runs)
 in_range-read number [] are = tt
 in_range-read number (run ∷ runs) are = (
-  elim (run.number == number && nat_lt run.read run.series) as (λ b. (cond b (record run { read = run.read + 1 }) run).question.time < 2 ^ 48) [
-    | true ↦ are.0
-    | false ↦ are.0
-  ],
+  elim (run.number == number
+      && nat_lt run.read run.series) as (λ b.
+      (cond b (record run { read = run.read + 1 }) run).question.time < 2 ^ 48) [
+        | true ↦ are.0
+        | false ↦ are.0
+      ],
   in_range-read number runs are.1,
 )
 
-pub in_range-found : (number : ℕ) (runs : List (Run Question)) (run : Run Question) → AreInRange runs → run_of number runs ≡ Some run → run.question.time < 2 ^ 48
+pub in_range-found : (number : ℕ) (runs : List (Run Question)) (run : Run Question)
+    → AreInRange runs → run_of number runs ≡ Some run → run.question.time < 2 ^ 48
 in_range-found number [] run are is = absurd cc
-in_range-found number (first ∷ runs) run are is = go (first.number == number) is (in_range-found number runs run are.1)
+in_range-found number (first ∷ runs) run are is =
+    go (first.number == number) is (in_range-found number runs run are.1)
   where
-    go : (b : Bool) → cond b (Some first) (run_of number runs) ≡ Some run → (run_of number runs ≡ Some run → run.question.time < 2 ^ 48)
+    go : (b : Bool) → cond b (Some first) (run_of number runs) ≡ Some run
+        → (run_of number runs ≡ Some run → run.question.time < 2 ^ 48)
         → run.question.time < 2 ^ 48
-    go true same more = subst (λ (r : Run Question). r.question.time < 2 ^ 48) (ap (λ o. unwrap_or o first) same) are.0
+    go true same more =
+        subst (λ (r : Run Question). r.question.time < 2 ^ 48) (ap (λ o. unwrap_or o first) same)
+        are.0
     go false there more = more there
 
 pub ruleset begins = (begins-free, in_range-append)

@@ -5,7 +5,8 @@ use Rattle.vm_machine.specs.Found.{values_of, value_of_entry}
 use Rattle.vm_base.specs.declared.stamped.Stamped.{Stamped}
 use Rattle.vm_labels.specs.declared.pair.Pair.{Pair}
 
-pub present-more : {A B : Type 0} (f : B → Option A) (xs : List B) (x : B) → present (map f (xs ++ x ∷ [])) ≡ present (map f xs) ++ option_to_list (f x)
+pub present-more : {A B : Type 0} (f : B → Option A) (xs : List B) (x : B)
+    → present (map f (xs ++ x ∷ [])) ≡ present (map f xs) ++ option_to_list (f x)
 present-more {A} f [] x = go (f x)
   where
     go : (o : Option A) → present (o ∷ []) ≡ option_to_list o
@@ -13,7 +14,8 @@ present-more {A} f [] x = go (f x)
     go (Some a) = refl
 present-more {A} f (y ∷ xs) x = go (f y) (present-more f xs x)
   where
-    go : (o : Option A) → present (map f (xs ++ x ∷ [])) ≡ present (map f xs) ++ option_to_list (f x)
+    go : (o : Option A) → present (map f (xs ++ x ∷ [])) ≡ present (map f xs)
+        ++ option_to_list (f x)
         → present (o ∷ map f (xs ++ x ∷ [])) ≡ present (o ∷ map f xs) ++ option_to_list (f x)
     go None more = more
     go (Some a) more = ap (λ rest. a ∷ rest) more

@@ -7,12 +7,13 @@ use Rattle.vm_labels.specs.declared.row.Batch.{Batch}
 abbrev pub enough : ℕ
 enough = 10000
 
--- the batches of lines that hold these rows, where rows of earlier lines are in hand: a batch ends at
--- the first line end at which it has enough rows, or at the body's end where it has a row
+-- the batches of lines that hold these rows, where rows of earlier lines are in hand: a batch ends
+-- at the first line end at which it has enough rows, or at the body's end where it has a row
 abbrev pub batches_from : List Row → List (List Row) → List Batch
 batches_from held [] = if length held == 0 then [] else record { rows = held } ∷ []
 batches_from held (line ∷ more) =
-    if nat_le enough (length (held ++ line)) then record { rows = held ++ line } ∷ batches_from [] more
+    if nat_le enough (length (held ++ line))
+    then record { rows = held ++ line } ∷ batches_from [] more
     else batches_from (held ++ line) more
 
 abbrev pub batches_of : List (List Row) → List Batch

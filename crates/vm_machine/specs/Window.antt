@@ -1,4 +1,5 @@
--- What a query at one time sees of a series. (MetricsQL, "rollup functions"; VictoriaMetrics, "instant query")
+-- What a query at one time sees of a series. (MetricsQL, "rollup functions"; VictoriaMetrics,
+-- "instant query")
 use Rattle.std.specs.Prelude.{ℕ, ◌+◌, ◌&&◌, nat_lt, nat_le, ℤ, Bool, List, Option, filter}
 use Rattle.std.specs.Option.{option_map}
 use Rattle.vm_base.specs.declared.stamped.Stamped.{Stamped}
@@ -14,4 +15,5 @@ last_within at window samples = last_of (filter (is_within at window) samples)
 
 -- `default_rollup`: the value of the last sample in the window
 abbrev pub default_rollup : ℕ → ℕ → List Stamped → Option ℤ
-default_rollup at window samples = option_map (λ sample. sample.value) (last_within at window samples)
+default_rollup at window samples =
+    option_map (λ sample. sample.value) (last_within at window samples)

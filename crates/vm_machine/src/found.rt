@@ -1,7 +1,7 @@
 //! The series that a question selects, gathered in one pass over rows.
 //!
-//! Of each series no more than one sample is kept: the latest of two parts of its samples is the later
-//! one of theirs.
+//! Of each series no more than one sample is kept: the latest of two parts of its samples is the
+//! later one of theirs.
 
 ghost use Rattle.std.specs.Prelude.{◌≡◌, ◌++◌, [], ◌∷◌, List as ListOf, length, map, IfOk, OnOk, OnErr, None, false, option_to_list};
 ghost use Rattle.std.specs.Bool.{OnTrue};
@@ -28,7 +28,8 @@ use vm_base::limits::DEFAULT_LOOKBACK;
 use vm_base::{List, Stamped, Text};
 use vm_labels::{Filter, FilterOp, Labels, Row, Selector};
 
-/// The series that a question selects of some rows, each with its last sample in the question's window.
+/// The series that a question selects of some rows, each with its last sample in the question's
+/// window.
 #[derive(Drop)]
 pub struct Found {
     series: BTreeMap<Labels, Option<Stamped>>,
@@ -141,7 +142,8 @@ fn push_value(
     labels: Labels,
     last: Option<Stamped>,
 ) -> Result<(), AllocError>
-    ensures { OnOk result (values.new ≡ values.old ++ option_to_list (value_of_entry (labels, last))) }
+    ensures { OnOk result
+        (values.new ≡ values.old ++ option_to_list (value_of_entry (labels, last))) }
 {
     if let Some(last) = last {
         values.push(Valued {

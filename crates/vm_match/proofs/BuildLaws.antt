@@ -33,7 +33,8 @@ reached_within IsPattern xs ys zs text good (before, after, e, all) = (
 )
 
 -- and a cause stays one
-pub cause_within : (IsPattern : List ℕ → Type 0) (xs ys zs : List (List ℕ)) (a b c : ℕ) (fault : MatchFault)
+pub cause_within :
+    (IsPattern : List ℕ → Type 0) (xs ys zs : List (List ℕ)) (a b c : ℕ) (fault : MatchFault)
     → All IsPattern xs → a ≤ b → IsCause IsPattern ys b c fault
     → IsCause IsPattern (xs ++ (ys ++ zs)) a c fault
 cause_within IsPattern xs ys zs a b c (BadPattern text) good le (reached, isnt) =
@@ -47,7 +48,8 @@ pub parted : {X : Type 0} (f : X → List (List ℕ)) (xs : List X) (i : ℕ) (x
     → i < length xs → x ≡ get_or xs i d
     → flat_map f xs ≡ flat_map f (take i xs) ++ (f x ++ flat_map f (drop (suc i) xs))
 parted f xs i x d within is =
-    ap (flat_map f) (sym (take-append-drop i xs) ∙ ap (λ t. take i xs ++ t) (drop-cons xs i d within))
+    ap (flat_map f)
+    (sym (take-append-drop i xs) ∙ ap (λ t. take i xs ++ t) (drop-cons xs i d within))
     ∙ flat_map-append f (take i xs) (get_or xs i d ∷ drop (suc i) xs)
     ∙ ap (λ y. flat_map f (take i xs) ++ (f y ++ flat_map f (drop (suc i) xs))) (sym is)
 
@@ -62,7 +64,8 @@ stops_at IsPattern f xs i x d a b c fault (Err e) fails within is good le cause 
     let P : List (List ℕ) → Type 0 = λ texts. IsCause IsPattern texts a c e in
     let Q : MatchFault → Type 0 = λ why. IsCause IsPattern (f x) b c why in
     subst P (sym (parted f xs i x d within is))
-    (cause_within IsPattern (flat_map f (take i xs)) (f x) (flat_map f (drop (suc i) xs)) a b c e good le
+    (cause_within IsPattern (flat_map f (take i xs)) (f x) (flat_map f (drop (suc i) xs)) a b c e
+    good le
     (subst Q (sym fails) cause))
 
 -- one item more whose texts are patterns

@@ -8,7 +8,8 @@ use Rattle.std.specs.List.{list_all, list_any}
 use Rattle.std.specs.Vec.{with_items}
 
 -- items at one place give the same
-pub same_at : {A B C : Type 0} (f : A → C) (g : B → C) (xs : List A) (ys : List B) (i : ℕ) (d : A) (e : B)
+pub same_at :
+    {A B C : Type 0} (f : A → C) (g : B → C) (xs : List A) (ys : List B) (i : ℕ) (d : A) (e : B)
     → map f xs ≡ map g ys → i < length ys → f (get_or xs i d) ≡ g (get_or ys i e)
 same_at f g xs [] i d e same within = absurd (omega arith)
 same_at f g [] (y ∷ ys) i d e same within = cc
@@ -33,8 +34,10 @@ pub same_written : {A C : Type 0} (f : A → C) (xs : List A) (i : ℕ) (x d : A
 same_written f xs i x d ys here same = map-set_same f xs i x d here ∙ same
 
 -- and so does one within a list of lists
-pub same_within : {A C Z : Type 0} (f : A → C) (xs : List (Vec A Z)) (i : ℕ) (d : Vec A Z) (new old : List A)
-    (ys : List (List C)) → length new ≡ (get_or xs i d).len → old ≡ (get_or xs i d).items → map f new ≡ map f old
+pub same_within :
+    {A C Z : Type 0} (f : A → C) (xs : List (Vec A Z)) (i : ℕ) (d : Vec A Z) (new old : List A)
+    (ys : List (List C)) → length new ≡ (get_or xs i d).len → old ≡ (get_or xs i d).items
+    → map f new ≡ map f old
     → map (λ (v : Vec A Z). map f v.items) xs ≡ ys
     → map (λ (v : Vec A Z). map f v.items) (set xs i (with_items (get_or xs i d) new)) ≡ ys
 same_within f xs i d new old ys long is here same =

@@ -32,11 +32,14 @@ IsReached IsPattern texts text = (before : List (List ℕ)) × (after : List (Li
 -- What each fault says of the texts, in order, and of the count of refusals before and now: the
 -- first that is no pattern, one that was refused and counted, or nothing.
 abbrev pub IsCause : (List ℕ → Type 0) → List (List ℕ) → ℕ → ℕ → MatchFault → Type 0
-IsCause IsPattern texts before now (BadPattern text) = IsReached IsPattern texts text × (IsPattern text → ⊥)
-IsCause IsPattern texts before now (PatternRefused text) = IsReached IsPattern texts text × Rose before now
+IsCause IsPattern texts before now (BadPattern text) = IsReached IsPattern texts text
+    × (IsPattern text → ⊥)
+IsCause IsPattern texts before now (PatternRefused text) = IsReached IsPattern texts text
+    × Rose before now
 IsCause IsPattern texts before now Memory = ⊤
 
 -- an answer for these texts: a good one only where all are patterns, else a cause
-abbrev pub Answers : {T : Type 0} → (List ℕ → Type 0) → List (List ℕ) → ℕ → ℕ → Result T MatchFault → Type 0
+abbrev pub Answers : {T : Type 0} → (List ℕ → Type 0) → List (List ℕ) → ℕ → ℕ → Result T MatchFault
+    → Type 0
 Answers IsPattern texts before now result =
     MatchResult result (λ built. All IsPattern texts) (IsCause IsPattern texts before now)

@@ -37,7 +37,8 @@ fn tests_of<P: Patterns>(
     filters: &[Filter],
     patterns: &mut P,
 ) -> Result<Vec<Test<P::Built>>, MatchFault>
-    ensures built { IfOk result (λ tests. map (kept P.Built.text) tests.items ≡ map asked filters.now) }
+    ensures built { IfOk result
+        (λ tests. map (kept P.Built.text) tests.items ≡ map asked filters.now) }
     ensures answer { Answers P.IsPattern (patterns_in filters.now)
         (P.refusals patterns.old) (P.refusals patterns.new) result }
     ensures counted { P.refusals patterns.old ≤ P.refusals patterns.new }

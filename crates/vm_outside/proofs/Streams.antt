@@ -33,7 +33,9 @@ takes_more (Some t) b c x y p q =
 pub front_of_rest : (bytes : List ℕ) (at n : ℕ)
     → take n (take (length bytes - at) (drop at bytes)) ≡ take n (drop at bytes)
 front_of_rest bytes at n =
-    ap (take n) (ap (λ k. take k (drop at bytes)) (sym (length-drop at bytes)) ∙ take-length (drop at bytes))
+    ap (take n)
+    (ap (λ k. take k (drop at bytes)) (sym (length-drop at bytes))
+    ∙ take-length (drop at bytes))
 
 -- the first bytes up to `at` and then n of the slice from there on are the first at + n
 pub takes_next : (a b c : Option (List ℕ)) (bytes : List ℕ) (at n : ℕ) → Takes a (take at bytes) b

@@ -9,7 +9,8 @@ use Rattle.vm_outside.specs.declared.disk_call.DiskCall.TheVariants.{Len, Read, 
 
 -- bytes with these put at a place that doesn't lie past their end
 abbrev pub written : ℕ → List ℕ → List ℕ → List ℕ
-written at bytes old = if nat_le at (length old) then take at old ++ bytes ++ drop (at + length bytes) old else old
+written at bytes old = if nat_le at (length old) then take at old ++ bytes
+    ++ drop (at + length bytes) old else old
 
 -- the file that a call means
 abbrev pub file_of : DiskCall → ℕ
@@ -28,7 +29,8 @@ replayed first (Write f at bytes true ∷ past) file =
     if nat_eq f file then written at bytes (replayed first past file) else replayed first past file
 replayed first (Write f at bytes false ∷ past) file = replayed first past file
 replayed first (Sync f done ∷ past) file = replayed first past file
-replayed first (DropFile f true ∷ past) file = if nat_eq f file then [] else replayed first past file
+replayed first (DropFile f true ∷ past) file = if nat_eq f file then []
+    else replayed first past file
 replayed first (DropFile f false ∷ past) file = replayed first past file
 
 -- what is unsynced of a file after these calls, the last one first
@@ -37,7 +39,8 @@ unsynced first [] file = all_synced (first file)
 unsynced first (Len f ∷ past) file = unsynced first past file
 unsynced first (Read f at n ∷ past) file = unsynced first past file
 unsynced first (Write f at bytes done ∷ past) file =
-    if nat_eq f file then after_write at (length bytes) (unsynced first past file) else unsynced first past file
+    if nat_eq f file then after_write at (length bytes) (unsynced first past file)
+    else unsynced first past file
 unsynced first (Sync f true ∷ past) file =
     if nat_eq f file then all_synced (replayed first past file) else unsynced first past file
 unsynced first (Sync f false ∷ past) file = unsynced first past file
@@ -52,7 +55,8 @@ remains first past file left = IsLeft (unsynced first past file) left
 abbrev pub remains_since : Image → ℕ → List DiskCall → Image → Type 0
 remains_since first since [] image = Each (remains first []) image
 remains_since first since (call ∷ past) image =
-    Each (remains first (call ∷ past)) image ⊎ ((since ≤ length past) × remains_since first since past image)
+    Each (remains first (call ∷ past)) image
+    ⊎ ((since ≤ length past) × remains_since first since past image)
 
 -- how many bytes the reads gave
 abbrev pub given : List DiskCall → ℕ

@@ -32,7 +32,8 @@ pub before_splice : (at i : ℕ) (bytes old : List ℕ) → at ≤ length old �
     → get_or (splice at bytes old) i 0 ≡ get_or old i 0
 before_splice at i bytes old within less =
     ap (λ l. get_or l i 0) (parts at bytes old)
-    ∙ get_or_append_left (take at old) (bytes ++ drop (at + length bytes) old) 0 i (omega (arith, length-take at old))
+    ∙ get_or_append_left (take at old) (bytes ++ drop (at + length bytes) old) 0 i
+    (omega (arith, length-take at old))
     ∙ get_or-take at old i 0 less
 
 -- what stands at a place after the front
@@ -41,7 +42,8 @@ behind_front : (at i : ℕ) (bytes old : List ℕ) → at ≤ length old
 behind_front at i bytes old within =
     let front : length (take at old) ≡ at = omega (arith, length-take at old) in
     ap (λ l. get_or l (at + i) 0) (parts at bytes old)
-    ∙ ap (λ k. get_or (take at old ++ (bytes ++ drop (at + length bytes) old)) (k + i) 0) (sym front)
+    ∙ ap (λ k. get_or (take at old ++ (bytes ++ drop (at + length bytes) old)) (k + i) 0)
+    (sym front)
     ∙ get_or-append-add (take at old) (bytes ++ drop (at + length bytes) old) i 0
 
 -- from the place on it has the new bytes
@@ -65,14 +67,17 @@ after_splice at i bytes old within from =
     ∙ ap (λ k. get_or old k 0) (omega arith)
 
 -- the same byte within both lists
-pub same_byte : (xs ys : List ℕ) (i : ℕ) → i < length xs → i < length ys → get_or xs i 0 ≡ get_or ys i 0
+pub same_byte : (xs ys : List ℕ) (i : ℕ) → i < length xs → i < length ys
+    → get_or xs i 0 ≡ get_or ys i 0
     → slice_get xs i ≡ slice_get ys i
 same_byte xs ys i less more is =
     slice_get-get_or xs i 0 less ∙ ap (λ byte. Some byte) is ∙ sym (slice_get-get_or ys i 0 more)
 
 -- a place within one list is within another that has the same byte there
-pub byte_within : (xs ys : List ℕ) (i : ℕ) → i < length xs → slice_get xs i ≡ slice_get ys i → i < length ys
-byte_within xs ys i less is = slice_get_within ys i (get_or xs i 0) (sym is ∙ slice_get-get_or xs i 0 less)
+pub byte_within : (xs ys : List ℕ) (i : ℕ) → i < length xs → slice_get xs i ≡ slice_get ys i
+    → i < length ys
+byte_within xs ys i less is =
+    slice_get_within ys i (get_or xs i 0) (sym is ∙ slice_get-get_or xs i 0 less)
 
 -- and the byte there is the same
 pub byte_same : (xs ys : List ℕ) (i : ℕ) → i < length xs → slice_get xs i ≡ slice_get ys i

@@ -22,7 +22,11 @@ all_synced bytes = record { synced = bytes; ranges = []; longest = length bytes 
 -- a file after a write of n bytes at a place, done or not, that doesn't lie past the file's end
 abbrev pub after_write : ℕ → ℕ → Unsynced → Unsynced
 after_write at n file = if nat_le at file.longest then
-    record { synced = file.synced; ranges = (at, n) ∷ file.ranges; longest = max file.longest (at + n) }
+    record {
+      synced = file.synced;
+      ranges = (at, n) ∷ file.ranges;
+      longest = max file.longest (at + n);
+    }
     else file
 
 -- a file after it was dropped, or was to be

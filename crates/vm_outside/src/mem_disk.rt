@@ -30,7 +30,8 @@ pub struct MemDisk {
     read_faults: u64,
     write_faults: u64,
     ghost fit: { list_all fits calls.items ≡ true },
-    ghost replays: { (file : ℕ) → content files file ≡ replayed (content first) (reverse calls.items) file },
+    ghost replays: { (file : ℕ)
+        → content files file ≡ replayed (content first) (reverse calls.items) file },
 }
 
 impl MemDisk {
@@ -39,9 +40,11 @@ impl MemDisk {
     /// An empty disk that wasn't called yet, whose calls with these numbers, counted from 0, fail.
     pub fn new(alloc: Global, failing: Vec<u64>) -> MemDisk
         ensures reads { (file : ℕ) → (⟦<MemDisk as Disk>⟧.state result).reads file ≡ [] }
-        ensures left { (file : ℕ) (left : List ℕ) → (⟦<MemDisk as Disk>⟧.state result).may_leave file left → left ≡ [] }
+        ensures left { (file : ℕ) (left : List ℕ)
+            → (⟦<MemDisk as Disk>⟧.state result).may_leave file left → left ≡ [] }
         ensures moment { (⟦<MemDisk as Disk>⟧.state result).moment ≡ 0 }
-        ensures faults { ((⟦<MemDisk as Disk>⟧.state result).read_faults ≡ 0) × ((⟦<MemDisk as Disk>⟧.state result).write_faults ≡ 0) }
+        ensures faults { ((⟦<MemDisk as Disk>⟧.state result).read_faults ≡ 0)
+            × ((⟦<MemDisk as Disk>⟧.state result).write_faults ≡ 0) }
         ensures honest { (⟦<MemDisk as Disk>⟧.state result).honest ≡ true }
     {
         MemDisk {
@@ -58,9 +61,11 @@ impl MemDisk {
     /// An empty disk that fails only where memory runs out.
     pub fn steady(alloc: Global) -> MemDisk
         ensures reads { (file : ℕ) → (⟦<MemDisk as Disk>⟧.state result).reads file ≡ [] }
-        ensures left { (file : ℕ) (left : List ℕ) → (⟦<MemDisk as Disk>⟧.state result).may_leave file left → left ≡ [] }
+        ensures left { (file : ℕ) (left : List ℕ)
+            → (⟦<MemDisk as Disk>⟧.state result).may_leave file left → left ≡ [] }
         ensures moment { (⟦<MemDisk as Disk>⟧.state result).moment ≡ 0 }
-        ensures faults { ((⟦<MemDisk as Disk>⟧.state result).read_faults ≡ 0) × ((⟦<MemDisk as Disk>⟧.state result).write_faults ≡ 0) }
+        ensures faults { ((⟦<MemDisk as Disk>⟧.state result).read_faults ≡ 0)
+            × ((⟦<MemDisk as Disk>⟧.state result).write_faults ≡ 0) }
         ensures honest { (⟦<MemDisk as Disk>⟧.state result).honest ≡ true }
     {
         MemDisk::new(alloc, Vec::new(alloc))
@@ -71,7 +76,8 @@ impl MemDisk {
         requires first { (⟦<MemDisk as Disk>⟧.state self).moment ≡ 0 }
         ensures reads { IfOk result (λ disk. (f : ℕ) → (⟦<MemDisk as Disk>⟧.state disk).reads f
             ≡ (if nat_eq file f then bytes.now else (⟦<MemDisk as Disk>⟧.state self).reads f)) }
-        ensures left { IfOk result (λ disk. (f : ℕ) (left : List ℕ) → (⟦<MemDisk as Disk>⟧.state disk).may_leave f left
+        ensures left { IfOk result
+            (λ disk. (f : ℕ) (left : List ℕ) → (⟦<MemDisk as Disk>⟧.state disk).may_leave f left
             → left ≡ (⟦<MemDisk as Disk>⟧.state disk).reads f) }
         ensures moment { IfOk result (λ disk. (⟦<MemDisk as Disk>⟧.state disk).moment ≡ 0) }
     {
@@ -102,7 +108,9 @@ impl MemDisk {
     /// What a crash after the first so many calls may leave of a file, or within the last of these.
     pub fn unsynced(&self, calls: usize, file: u64) -> Result<Unsynced, AllocError>
         requires { calls ≤ (⟦<MemDisk as Disk>⟧.state self.now).moment }
-        ensures { IfOk result (λ left. left ≡ unsynced (first_of self.now) (reverse (take calls (calls_of self.now))) file) }
+        ensures { IfOk result
+            (λ left. left
+            ≡ unsynced (first_of self.now) (reverse (take calls (calls_of self.now))) file) }
     {
         let mut held = Vec::from_slice(self.alloc, self.first.bytes(file))?;
         let mut left = Unsynced::all_synced(self.alloc, &held)?;
@@ -165,7 +173,8 @@ impl MemDisk {
         requires still { IsStill call }
         requires fits { fits call ≡ true }
         ensures may_note { MayNote call self.old self.new }
-        ensures kept { (first_of self.new ≡ first_of self.old) × (files_of self.new ≡ files_of self.old) }
+        ensures kept { (first_of self.new ≡ first_of self.old)
+            × (files_of self.new ≡ files_of self.old) }
         ensures counted { self.new.read_faults ≡ raised self.old.read_faults }
         ensures write_faults { self.new.write_faults ≡ self.old.write_faults }
         ensures failing { self.new.failing ≡ self.old.failing }
@@ -181,7 +190,8 @@ impl MemDisk {
         requires still { IsStill call }
         requires fits { fits call ≡ true }
         ensures may_note { MayNote call self.old self.new }
-        ensures kept { (first_of self.new ≡ first_of self.old) × (files_of self.new ≡ files_of self.old) }
+        ensures kept { (first_of self.new ≡ first_of self.old)
+            × (files_of self.new ≡ files_of self.old) }
         ensures counted { self.new.write_faults ≡ raised self.old.write_faults }
         ensures read_faults { self.new.read_faults ≡ self.old.read_faults }
         ensures failing { self.new.failing ≡ self.old.failing }
@@ -196,7 +206,8 @@ impl MemDisk {
     fn fail_whole_write(&mut self, file: u64, at: u64, bytes: &[u8]) -> Failed
         requires fits { at + length bytes.now ≤ 2 ^ 62 }
         ensures may_note { MayNote (Write file at bytes.now false) self.old self.new }
-        ensures kept { (first_of self.new ≡ first_of self.old) × (files_of self.new ≡ files_of self.old) }
+        ensures kept { (first_of self.new ≡ first_of self.old)
+            × (files_of self.new ≡ files_of self.old) }
         ensures counted { self.new.write_faults ≡ raised self.old.write_faults }
         ensures read_faults { self.new.read_faults ≡ self.old.read_faults }
         ensures failing { self.new.failing ≡ self.old.failing }
@@ -224,9 +235,11 @@ fn write_down(
 ) -> Result<(), AllocError>
     requires within { at ≤ length (content files.old file) }
     requires fits { at + length bytes.now ≤ 2 ^ 62 }
-    ensures noted { OnOk result (calls.new.items ≡ calls.old.items ++ Write file at bytes.now true ∷ []) }
+    ensures noted { OnOk result
+        (calls.new.items ≡ calls.old.items ++ Write file at bytes.now true ∷ []) }
     ensures written { OnOk result ((f : ℕ) → content files.new f
-        ≡ (if nat_eq file f then written at bytes.now (content files.old f) else content files.old f)) }
+        ≡ (if nat_eq file f then written at bytes.now (content files.old f)
+        else content files.old f)) }
     ensures not_noted { OnErr result (calls.new.items ≡ calls.old.items) }
     ensures kept { OnErr result ((f : ℕ) → content files.new f ≡ content files.old f) }
 {
@@ -290,9 +303,12 @@ impl Disk for MemDisk {
 
     ghost state = { state_of };
 
-    ghost reads_as_left = { λ disk honest file. reads_as_left (content disk.first) disk.calls.items file (content disk.files file) (disk.replays file) };
+    ghost reads_as_left = { λ disk honest file.
+        reads_as_left (content disk.first) disk.calls.items file (content disk.files file)
+        (disk.replays file) };
 
-    ghost counts_now = { λ disk since image within each. counted_now (content disk.first) disk.calls.items since image within each };
+    ghost counts_now = { λ disk since image within each.
+        counted_now (content disk.first) disk.calls.items since image within each };
 
     ghost only_now = { λ disk image left. only_last_now (content disk.first) disk.calls.items image left };
 
@@ -313,14 +329,17 @@ impl Disk for MemDisk {
     }
 
     fn read(&mut self, file: u64, at: u64, into: &mut [u8]) -> Result<usize, Failed>
-        ensures count { IfOk result (λ n. n ≡ min (length into.old) (length (files_of self.old file) - at)) }
-        ensures bytes { IfOk result (λ n. into.new ≡ take n (drop at (files_of self.old file)) ++ drop n into.old) }
+        ensures count { IfOk result
+            (λ n. n ≡ min (length into.old) (length (files_of self.old file) - at)) }
+        ensures bytes { IfOk result
+            (λ n. into.new ≡ take n (drop at (files_of self.old file)) ++ drop n into.old) }
         ensures reads { OnlyReads (length into.old) (state_of self.old) (state_of self.new) }
         ensures bytes_read { MatchResult result
             (λ n. (state_of self.new).bytes_read ≡ (state_of self.old).bytes_read + n)
             (λ _. (state_of self.new).bytes_read ≡ (state_of self.old).bytes_read) }
         ensures time { Passes (state_of self.old) (state_of self.new) }
-        ensures made { IsMade (Read file at (given_by result)) (Read file at 0) (is_ok result) self.old self.new }
+        ensures made { IsMade (Read file at (given_by result)) (Read file at 0) (is_ok result)
+            self.old self.new }
         ensures counted { CountsEach result self.old.read_faults self.new.read_faults }
     {
         if self.failing.begin() {
@@ -340,12 +359,16 @@ impl Disk for MemDisk {
     fn write(&mut self, file: u64, at: u64, bytes: &[u8]) -> Result<(), Failed>
         requires fits { at + length bytes.now ≤ 2 ^ 62 }
         requires no_gap { at ≤ length (files_of self.old file) }
-        ensures written { OnOk result (Changes file (Holds at bytes.now) (files_of self.old) (files_of self.new)) }
-        ensures torn { OnErr result (Changes file (Torn at (length bytes.now)) (files_of self.old) (files_of self.new)) }
+        ensures written { OnOk result
+            (Changes file (Holds at bytes.now) (files_of self.old) (files_of self.new)) }
+        ensures torn { OnErr result
+            (Changes file (Torn at (length bytes.now)) (files_of self.old) (files_of self.new)) }
         ensures kept { OnErr result ((f : ℕ) → files_of self.new f ≡ files_of self.old f) }
-        ensures changes { OnlyChanges file (Torn at (length bytes.now)) (state_of self.old) (state_of self.new) }
+        ensures changes { OnlyChanges file (Torn at (length bytes.now)) (state_of self.old)
+            (state_of self.new) }
         ensures time { Passes (state_of self.old) (state_of self.new) }
-        ensures made { IsMade (Write file at bytes.now true) (Write file at bytes.now false) (is_ok result) self.old self.new }
+        ensures made { IsMade (Write file at bytes.now true) (Write file at bytes.now false)
+            (is_ok result) self.old self.new }
         ensures counted { CountsEach result self.old.write_faults self.new.write_faults }
     {
         if self.failing.begin() {
@@ -368,7 +391,9 @@ impl Disk for MemDisk {
         ensures quiet { Quiet (state_of self.old) (state_of self.new) }
         ensures bytes_read { (state_of self.new).bytes_read ≡ (state_of self.old).bytes_read }
         ensures read_faults { self.new.read_faults ≡ self.old.read_faults }
-        ensures durable { OnOk result ((left : List ℕ) → (state_of self.new).may_leave file left → left ≡ files_of self.old file) }
+        ensures durable { OnOk result
+            ((left : List ℕ) → (state_of self.new).may_leave file left
+            → left ≡ files_of self.old file) }
         ensures time { Passes (state_of self.old) (state_of self.new) }
         ensures made { IsMade (Sync file true) (Sync file false) (is_ok result) self.old self.new }
         ensures counted { CountsEach result self.old.write_faults self.new.write_faults }
@@ -383,12 +408,16 @@ impl Disk for MemDisk {
     }
 
     fn drop_file(&mut self, file: u64) -> Result<(), Failed>
-        ensures dropped { OnOk result (Changes file Emptied (files_of self.old) (files_of self.new)) }
-        ensures torn { OnErr result ((files_of self.new ≡ files_of self.old) ⊎ Changes file Emptied (files_of self.old) (files_of self.new)) }
+        ensures dropped { OnOk result
+            (Changes file Emptied (files_of self.old) (files_of self.new)) }
+        ensures torn { OnErr result
+            ((files_of self.new ≡ files_of self.old)
+            ⊎ Changes file Emptied (files_of self.old) (files_of self.new)) }
         ensures kept { OnErr result (files_of self.new ≡ files_of self.old) }
         ensures changes { OnlyChanges file Dropped (state_of self.old) (state_of self.new) }
         ensures time { Passes (state_of self.old) (state_of self.new) }
-        ensures made { IsMade (DropFile file true) (DropFile file false) (is_ok result) self.old self.new }
+        ensures made { IsMade (DropFile file true) (DropFile file false) (is_ok result) self.old
+            self.new }
         ensures counted { CountsEach result self.old.write_faults self.new.write_faults }
     {
         if self.failing.begin() {

@@ -54,7 +54,8 @@ impl Files {
     ) -> Result<(), AllocError>
         requires { at ≤ length (content self.old file) }
         ensures written { OnOk result ((f : ℕ) → content self.new f
-            ≡ (if nat_eq file f then written at bytes.now (content self.old f) else content self.old f)) }
+            ≡ (if nat_eq file f then written at bytes.now (content self.old f)
+            else content self.old f)) }
         ensures kept { OnErr result ((f : ℕ) → content self.new f ≡ content self.old f) }
     {
         match self.by_number.get_mut(&file) {

@@ -60,9 +60,12 @@ impl Unsynced {
         held: &mut Vec<u8>,
     ) -> Result<Unsynced, AllocError>
         requires fits { fits call.now ≡ true }
-        ensures left { (first : Image) (past : List Call) → replayed first past file ≡ held.old.items
-            → unsynced first past file ≡ self → IfOk result (λ left. unsynced first (call.now ∷ past) file ≡ left) }
-        ensures held { (first : Image) (past : List Call) → replayed first past file ≡ held.old.items
+        ensures left { (first : Image) (past : List Call)
+            → replayed first past file ≡ held.old.items
+            → unsynced first past file ≡ self
+            → IfOk result (λ left. unsynced first (call.now ∷ past) file ≡ left) }
+        ensures held { (first : Image) (past : List Call)
+            → replayed first past file ≡ held.old.items
             → OnOk result (replayed first (call.now ∷ past) file ≡ held.new.items) }
     {
         if call.file() != file {
@@ -96,7 +99,9 @@ impl Unsynced {
     ) -> Result<Unsynced, AllocError>
         requires fits { at + length bytes.now ≤ 2 ^ 62 }
         ensures left { IfOk result (λ left. left ≡ after_write at (length bytes.now) self) }
-        ensures held { OnOk result (held.new.items ≡ (if done then written at bytes.now held.old.items else held.old.items)) }
+        ensures held { OnOk result
+            (held.new.items
+            ≡ (if done then written at bytes.now held.old.items else held.old.items)) }
     {
         if done {
             put(held, at, bytes)?;
@@ -153,7 +158,8 @@ impl Unsynced {
 
     /// Whether a crash may leave this byte at this place.
     fn may_hold(&self, at: usize, byte: u8) -> bool
-        ensures { IsTrue result ↔ (is_in self.now.ranges at ≡ false → slice_get self.now.synced at ≡ Some byte) }
+        ensures { IsTrue result
+            ↔ (is_in self.now.ranges at ≡ false → slice_get self.now.synced at ≡ Some byte) }
     {
         is_written(self.ranges.as_slice(), at as u64) || self.synced.get(at) == Some(&byte)
     }

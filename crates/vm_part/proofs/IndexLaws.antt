@@ -29,23 +29,44 @@ label_within bytes at is = go (fields_of bytes) is
 four : (n : ℕ) → length (to_be_bytes w32 n) ≡ 4
 four n = refl
 
-behind_within : (sets : List (List Pair)) (due : ℕ) (rest : List ℕ) (place : ℕ) → BreaksBehind sets due rest place → place ≤ length rest
+behind_within : (sets : List (List Pair)) (due : ℕ) (rest : List ℕ) (place : ℕ)
+    → BreaksBehind sets due rest place → place ≤ length rest
 behind_within sets due rest _ (left_over all some) = omega arith
 behind_within sets due rest _ (no_length some short) = omega arith
 behind_within sets due rest _ (past_the_end n more some small is long) = omega arith
 behind_within sets due rest _ (no_set bytes more at some small is why) =
     let whole = ap length is ∙ length-append (to_be_bytes w32 (length bytes) ++ bytes) more in
-    omega (arith, whole, length-append (to_be_bytes w32 (length bytes)) bytes, four (length bytes), label_within bytes at why)
+    omega (
+      arith,
+      whole,
+      length-append (to_be_bytes w32 (length bytes)) bytes,
+      four (length bytes),
+      label_within bytes at why,
+    )
 behind_within sets due rest _ (no_rise set more some has is low) =
     let whole = ap length is ∙ length-append (framed set) more in
-    omega (arith, whole, length-append (to_be_bytes w32 (length (label_set_bytes set))) (label_set_bytes set), four (length (label_set_bytes set)))
+    omega (
+      arith,
+      whole,
+      length-append (to_be_bytes w32 (length (label_set_bytes set))) (label_set_bytes set),
+      four (length (label_set_bytes set)),
+    )
 
-pub table_within : (count : ℕ) (table : List ℕ) (at : ℕ) → TableBreaks count table at → at ≤ length table
+pub table_within : (count : ℕ) (table : List ℕ) (at : ℕ) → TableBreaks count table at
+    → at ≤ length table
 table_within count table at breaks =
-    let rest = behind_within breaks.sets (count - length breaks.sets) breaks.rest breaks.place breaks.broken in
-    omega (arith, breaks.is, ap length breaks.parts ∙ length-append (table_bytes breaks.sets) breaks.rest)
+    let rest =
+    behind_within breaks.sets (count - length breaks.sets) breaks.rest breaks.place
+    breaks.broken in
+    omega (
+      arith,
+      breaks.is,
+      ap length breaks.parts
+          ∙ length-append (table_bytes breaks.sets) breaks.rest,
+    )
 
-pub off_within : (fields : List (List ℕ)) (bytes : List ℕ) (at : ℕ) → first_off fields bytes ≡ Some at → at ≤ length bytes
+pub off_within : (fields : List (List ℕ)) (bytes : List ℕ) (at : ℕ)
+    → first_off fields bytes ≡ Some at → at ≤ length bytes
 off_within fields bytes at is = go (behind_all fields bytes) is
   where
     left : (b : Bool) (n : ℕ) → cond b (Some (length bytes - n)) None ≡ Some at → at ≤ length bytes
@@ -58,16 +79,21 @@ off_within fields bytes at is = go (behind_all fields bytes) is
 
 -- ---- places in the file
 
-within_file : (bytes : List ℕ) (a b n : ℕ) → a ≤ b → b ≤ length bytes → n ≤ length (between a b bytes) → a + n ≤ length bytes
+within_file : (bytes : List ℕ) (a b n : ℕ) → a ≤ b → b ≤ length bytes
+    → n ≤ length (between a b bytes) → a + n ≤ length bytes
 within_file bytes a b n rise inside within =
     omega (arith, length-take-le (b - a) (drop a bytes) (omega (arith, length-drop a bytes)))
 
 pub table_place : (at : ℕ) (bytes : List ℕ) (f : Footer) (n : ℕ) → AreSections at bytes f
-    → IsRefused f.series (table_in f bytes) (postings_in at f bytes) (BrokenTable n) → f.table_at + n ≤ length bytes
+    → IsRefused f.series (table_in f bytes) (postings_in at f bytes) (BrokenTable n)
+    → f.table_at + n ≤ length bytes
 table_place at bytes f n s why =
-    within_file bytes f.table_at f.postings_at n s.table (omega (arith, s.postings, s.whole)) (table_within f.series (table_in f bytes) n why)
+    within_file bytes f.table_at f.postings_at n s.table (omega (arith, s.postings, s.whole))
+    (table_within f.series (table_in f bytes) n why)
 
 pub postings_place : (at : ℕ) (bytes : List ℕ) (f : Footer) (n : ℕ) → AreSections at bytes f
-    → IsRefused f.series (table_in f bytes) (postings_in at f bytes) (BrokenPostings n) → f.postings_at + n ≤ length bytes
+    → IsRefused f.series (table_in f bytes) (postings_in at f bytes) (BrokenPostings n)
+    → f.postings_at + n ≤ length bytes
 postings_place at bytes f n s why =
-    within_file bytes f.postings_at at n s.postings (omega (arith, s.whole)) (off_within (postings_fields (postings_of why.0)) (postings_in at f bytes) n why.2)
+    within_file bytes f.postings_at at n s.postings (omega (arith, s.whole))
+    (off_within (postings_fields (postings_of why.0)) (postings_in at f bytes) n why.2)

@@ -19,14 +19,18 @@ bytes_behind all = entries all ++ (table all ++ (postings all ++ footer all))
 
 -- ---- from label sets, entries and blocks
 
-first_set : (a b : List Pair) (more others : List (List Pair)) → a ∷ more ≡ b ∷ others → (a ≡ b) × (more ≡ others)
+first_set : (a b : List Pair) (more others : List (List Pair)) → a ∷ more ≡ b ∷ others → (a ≡ b)
+    × (more ≡ others)
 first_set a b more others same = (cc, cc)
 
-first_entry : (a b : Entry) (more others : List Entry) → a ∷ more ≡ b ∷ others → (a ≡ b) × (more ≡ others)
+first_entry : (a b : Entry) (more others : List Entry) → a ∷ more ≡ b ∷ others → (a ≡ b)
+    × (more ≡ others)
 first_entry a b more others same = (cc, cc)
 
--- series of the same label sets with as many blocks each, whose blocks begin the same bytes, are the same
-one_list : (some others : List Stored) (from at : ℕ) (x y : List ℕ) → AllByRecursion IsStored some → AllByRecursion IsStored others
+-- series of the same label sets with as many blocks each, whose blocks begin the same bytes, are
+-- the same
+one_list : (some others : List Stored) (from at : ℕ) (x y : List ℕ) → AllByRecursion IsStored some
+    → AllByRecursion IsStored others
     → sets_of some ≡ sets_of others → entries_from from some ≡ entries_from at others
     → flat_map series_bytes some ++ x ≡ flat_map series_bytes others ++ y → some ≡ others
 one_list [] [] from at x y a b sets said same = refl
@@ -37,11 +41,16 @@ one_list (s ∷ some) (t ∷ others) from at x y a b sets said same =
     let later : ℕ = from + length (series_bytes s) in
     let there : ℕ = at + length (series_bytes t) in
     let each = first_entry _ _ (entries_from later some) (entries_from there others) said in
-    let here = one_blocks_front s.blocks t.blocks (flat_map series_bytes some ++ x) (flat_map series_bytes others ++ y) a.0.blocks b.0.blocks
+    let here =
+    one_blocks_front s.blocks t.blocks (flat_map series_bytes some ++ x)
+    (flat_map series_bytes others ++ y) a.0.blocks b.0.blocks
     (ap (λ (e : Entry). e.blocks) each.0)
-    (sym (append_assoc (series_bytes s) (flat_map series_bytes some) x) ∙ same ∙ append_assoc (series_bytes t) (flat_map series_bytes others) y) in
-    let made : List Pair → List Block → Stored = λ labels blocks. record { labels = labels; blocks = blocks } in
-    ap₂ ◌∷◌ (ap₂ made labels.0 here.0) (one_list some others later there x y a.1 b.1 labels.1 each.1 here.1)
+    (sym (append_assoc (series_bytes s) (flat_map series_bytes some) x) ∙ same
+    ∙ append_assoc (series_bytes t) (flat_map series_bytes others) y) in
+    let made : List Pair → List Block → Stored =
+    λ labels blocks. record { labels = labels; blocks = blocks } in
+    ap₂ ◌∷◌ (ap₂ made labels.0 here.0)
+    (one_list some others later there x y a.1 b.1 labels.1 each.1 here.1)
 
 -- ---- from bytes
 
@@ -53,21 +62,29 @@ table_there bytes all is has = record {
   spelled = has.table;
 }
 
-pub one_part : (bytes : List ℕ) (some others : List Stored) → IsPart bytes some → IsPart bytes others → some ≡ others
+pub one_part : (bytes : List ℕ) (some others : List Stored) → IsPart bytes some
+    → IsPart bytes others → some ≡ others
 one_part bytes some others a b =
     let one = layout bytes some a in
     let other = layout bytes others b in
     let feet : footer_of some ≡ footer_of others = sym one.footer ∙ other.footer in
     let sets : sets_of some ≡ sets_of others =
-    one_table (footer_of others).series (table_in (footer_of others) bytes) (sets_of some) (sets_of others)
-    (subst (λ (f : Footer). IsTable f.series (table_in f bytes) (sets_of some)) feet (table_there bytes some a one))
+    one_table (footer_of others).series (table_in (footer_of others) bytes) (sets_of some)
+    (sets_of others)
+    (subst (λ (f : Footer). IsTable f.series (table_in f bytes) (sets_of some)) feet
+    (table_there bytes some a one))
     (table_there bytes others b other) in
     let said : entries_of some ≡ entries_of others =
-    sym one.entries ∙ ap (λ (f : Footer). entries_at f.series f.entries_at bytes) feet ∙ other.entries in
-    let spelled : front_mark ++ (flat_map series_bytes some ++ bytes_behind some) ≡ front_mark ++ (flat_map series_bytes others ++ bytes_behind others) =
+    sym one.entries ∙ ap (λ (f : Footer). entries_at f.series f.entries_at bytes) feet
+    ∙ other.entries in
+    let spelled : front_mark ++ (flat_map series_bytes some ++ bytes_behind some) ≡ front_mark
+    ++ (flat_map series_bytes others ++ bytes_behind others) =
     sym (a.spelled ∙ image_front some) ∙ b.spelled ∙ image_front others in
-    one_list some others 8 8 (bytes_behind some) (bytes_behind others) a.stored.each b.stored.each sets said
-    (same_behind front_mark (flat_map series_bytes some ++ bytes_behind some) (flat_map series_bytes others ++ bytes_behind others) spelled)
+    one_list some others 8 8 (bytes_behind some) (bytes_behind others) a.stored.each b.stored.each
+    sets said
+    (same_behind front_mark (flat_map series_bytes some ++ bytes_behind some)
+    (flat_map series_bytes others ++ bytes_behind others) spelled)
   where
     same_behind : (m x y : List ℕ) → m ++ x ≡ m ++ y → x ≡ y
-    same_behind m x y same = sym (drop-append_seam m x) ∙ ap (drop (length m)) same ∙ drop-append_seam m y
+    same_behind m x y same = sym (drop-append_seam m x) ∙ ap (drop (length m)) same
+        ∙ drop-append_seam m y

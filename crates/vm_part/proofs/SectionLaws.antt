@@ -13,7 +13,8 @@ use Rattle.vm_part.specs.declared.footer.Footer.{Footer}
 
 module _ (at : ℕ) (b0 b1 b2 b3 b4 b5 b6 : Bool) where
   abbrev seven : List (ℕ × Bool)
-  seven = (0, b0) ∷ (at, b1) ∷ (at + 8, b2) ∷ (at + 16, b3) ∷ (at + 24, b4) ∷ (at + 32, b5) ∷ (at + 40, b6) ∷ []
+  seven = (0, b0) ∷ (at, b1) ∷ (at + 8, b2) ∷ (at + 16, b3) ∷ (at + 24, b4) ∷ (at + 32, b5)
+      ∷ (at + 40, b6) ∷ []
 
   first_of_seven : b0 ≡ false → first_broken seven ≡ Some 0
   first_of_seven h0 = rw h0 refl
@@ -27,16 +28,20 @@ module _ (at : ℕ) (b0 b1 b2 b3 b4 b5 b6 : Bool) where
   fourth : b0 ≡ true → b1 ≡ true → b2 ≡ true → b3 ≡ false → first_broken seven ≡ Some (at + 16)
   fourth h0 h1 h2 h3 = rw (h0, h1, h2, h3) refl
 
-  fifth : b0 ≡ true → b1 ≡ true → b2 ≡ true → b3 ≡ true → b4 ≡ false → first_broken seven ≡ Some (at + 24)
+  fifth : b0 ≡ true → b1 ≡ true → b2 ≡ true → b3 ≡ true → b4 ≡ false
+      → first_broken seven ≡ Some (at + 24)
   fifth h0 h1 h2 h3 h4 = rw (h0, h1, h2, h3, h4) refl
 
-  sixth : b0 ≡ true → b1 ≡ true → b2 ≡ true → b3 ≡ true → b4 ≡ true → b5 ≡ false → first_broken seven ≡ Some (at + 32)
+  sixth : b0 ≡ true → b1 ≡ true → b2 ≡ true → b3 ≡ true → b4 ≡ true → b5 ≡ false
+      → first_broken seven ≡ Some (at + 32)
   sixth h0 h1 h2 h3 h4 h5 = rw (h0, h1, h2, h3, h4, h5) refl
 
-  seventh : b0 ≡ true → b1 ≡ true → b2 ≡ true → b3 ≡ true → b4 ≡ true → b5 ≡ true → b6 ≡ false → first_broken seven ≡ Some (at + 40)
+  seventh : b0 ≡ true → b1 ≡ true → b2 ≡ true → b3 ≡ true → b4 ≡ true → b5 ≡ true → b6 ≡ false
+      → first_broken seven ≡ Some (at + 40)
   seventh h0 h1 h2 h3 h4 h5 h6 = rw (h0, h1, h2, h3, h4, h5, h6) refl
 
-  all_seven : b0 ≡ true → b1 ≡ true → b2 ≡ true → b3 ≡ true → b4 ≡ true → b5 ≡ true → b6 ≡ true → first_broken seven ≡ None
+  all_seven : b0 ≡ true → b1 ≡ true → b2 ≡ true → b3 ≡ true → b4 ≡ true → b5 ≡ true → b6 ≡ true
+      → first_broken seven ≡ None
   all_seven h0 h1 h2 h3 h4 h5 h6 = rw (h0, h1, h2, h3, h4, h5, h6) refl
 
 module _ (at : ℕ) (bytes : List ℕ) where
@@ -67,23 +72,29 @@ module _ (at : ℕ) (bytes : List ℕ) where
   pub broken_entries : b0 ≡ true → b1 ≡ false → first_broken (front_rules at bytes) ≡ Some at
   broken_entries h0 h1 = second at b0 b1 b2 b3 b4 b5 b6 h0 h1
 
-  pub broken_table : b0 ≡ true → b1 ≡ true → b2 ≡ false → first_broken (front_rules at bytes) ≡ Some (at + 8)
+  pub broken_table : b0 ≡ true → b1 ≡ true → b2 ≡ false
+      → first_broken (front_rules at bytes) ≡ Some (at + 8)
   broken_table h0 h1 h2 = third at b0 b1 b2 b3 b4 b5 b6 h0 h1 h2
 
-  pub broken_postings : b0 ≡ true → b1 ≡ true → b2 ≡ true → b3 ≡ false → first_broken (front_rules at bytes) ≡ Some (at + 16)
+  pub broken_postings : b0 ≡ true → b1 ≡ true → b2 ≡ true → b3 ≡ false
+      → first_broken (front_rules at bytes) ≡ Some (at + 16)
   broken_postings h0 h1 h2 h3 = fourth at b0 b1 b2 b3 b4 b5 b6 h0 h1 h2 h3
 
-  pub broken_series : b0 ≡ true → b1 ≡ true → b2 ≡ true → b3 ≡ true → b4 ≡ false → first_broken (front_rules at bytes) ≡ Some (at + 24)
+  pub broken_series : b0 ≡ true → b1 ≡ true → b2 ≡ true → b3 ≡ true → b4 ≡ false
+      → first_broken (front_rules at bytes) ≡ Some (at + 24)
   broken_series h0 h1 h2 h3 h4 = fifth at b0 b1 b2 b3 b4 b5 b6 h0 h1 h2 h3 h4
 
-  pub broken_rows : b0 ≡ true → b1 ≡ true → b2 ≡ true → b3 ≡ true → b4 ≡ true → b5 ≡ false → first_broken (front_rules at bytes) ≡ Some (at + 32)
+  pub broken_rows : b0 ≡ true → b1 ≡ true → b2 ≡ true → b3 ≡ true → b4 ≡ true → b5 ≡ false
+      → first_broken (front_rules at bytes) ≡ Some (at + 32)
   broken_rows h0 h1 h2 h3 h4 h5 = sixth at b0 b1 b2 b3 b4 b5 b6 h0 h1 h2 h3 h4 h5
 
-  pub broken_mark : b0 ≡ true → b1 ≡ true → b2 ≡ true → b3 ≡ true → b4 ≡ true → b5 ≡ true → b6 ≡ false
+  pub broken_mark : b0 ≡ true → b1 ≡ true → b2 ≡ true → b3 ≡ true → b4 ≡ true → b5 ≡ true
+      → b6 ≡ false
       → first_broken (front_rules at bytes) ≡ Some (at + 40)
   broken_mark h0 h1 h2 h3 h4 h5 h6 = seventh at b0 b1 b2 b3 b4 b5 b6 h0 h1 h2 h3 h4 h5 h6
 
-  pub none_broken : b0 ≡ true → b1 ≡ true → b2 ≡ true → b3 ≡ true → b4 ≡ true → b5 ≡ true → b6 ≡ true
+  pub none_broken : b0 ≡ true → b1 ≡ true → b2 ≡ true → b3 ≡ true → b4 ≡ true → b5 ≡ true
+      → b6 ≡ true
       → first_broken (front_rules at bytes) ≡ None
   none_broken h0 h1 h2 h3 h4 h5 h6 = all_seven at b0 b1 b2 b3 b4 b5 b6 h0 h1 h2 h3 h4 h5 h6
 
@@ -97,31 +108,47 @@ record Places (at e t p s : ℕ) : Type 0 where
   pub postings : p ≤ at
 
 places : (at e t p s : ℕ) (w1 w2 w3 w4 : Bool) → (w1 && nat_le 8 e && nat_le e at) ≡ true
-    → (w2 && nat_lt e t && (t - e) % 40 == 0 && nat_le t at) ≡ true → (w3 && nat_le t p && nat_le p at) ≡ true
+    → (w2 && nat_lt e t && (t - e) % 40 == 0 && nat_le t at) ≡ true
+    → (w3 && nat_le t p && nat_le p at) ≡ true
     → (w4 && s * 40 == t - e) ≡ true → Places at e t p s
 places at e t p s w1 w2 w3 w4 h1 h2 h3 h4 =
-    let low = leb-true 8 e (and_parts w1 (nat_le 8 e) (and_parts (w1 && nat_le 8 e) (nat_le e at) h1).0).1 in
+    let low =
+    leb-true 8 e
+    (and_parts w1 (nat_le 8 e) (and_parts (w1 && nat_le 8 e) (nat_le e at) h1).0).1 in
     let front = (and_parts (w2 && nat_lt e t && (t - e) % 40 == 0) (nat_le t at) h2).0 in
-    let rise = ltb-true e t (and_parts w2 (nat_lt e t) (and_parts (w2 && nat_lt e t) ((t - e) % 40 == 0) front).0).1 in
+    let rise =
+    ltb-true e t
+    (and_parts w2 (nat_lt e t) (and_parts (w2 && nat_lt e t) ((t - e) % 40 == 0) front).0).1 in
     let both = and_parts (w3 && nat_le t p) (nat_le p at) h3 in
     let table = leb-true t p (and_parts w3 (nat_le t p) both.0).1 in
     let postings = leb-true p at both.1 in
     let many = eqb-true (s * 40) (t - e) (and_parts w4 (s * 40 == t - e) h4).1 in
-    record { low = low; some = omega arith; entries = omega arith; table = table; postings = postings }
+    record {
+      low = low;
+      some = omega arith;
+      entries = omega arith;
+      table = table;
+      postings = postings;
+    }
 
-pub mark_stands : (at : ℕ) (bytes mark : List ℕ) → has_mark at bytes mark ≡ true → (at + 8 ≤ length bytes) × (field 8 at bytes ≡ mark)
+pub mark_stands : (at : ℕ) (bytes mark : List ℕ) → has_mark at bytes mark ≡ true
+    → (at + 8 ≤ length bytes) × (field 8 at bytes ≡ mark)
 mark_stands at bytes mark h =
     let both = and_parts (is_whole at bytes) (bytes_eq (field 8 at bytes) mark) h in
     (leb-true (at + 8) (length bytes) both.0, (bytes_eq-Decides (field 8 at bytes) mark).0 both.1)
 
-pub sections : (at : ℕ) (bytes : List ℕ) → has_mark 0 bytes front_mark ≡ true → is_entries_place at bytes ≡ true → is_table_place at bytes ≡ true
-    → is_postings_place at bytes ≡ true → is_series_count at bytes ≡ true → has_mark (at + 40) bytes end_mark ≡ true
+pub sections : (at : ℕ) (bytes : List ℕ) → has_mark 0 bytes front_mark ≡ true
+    → is_entries_place at bytes ≡ true → is_table_place at bytes ≡ true
+    → is_postings_place at bytes ≡ true → is_series_count at bytes ≡ true
+    → has_mark (at + 40) bytes end_mark ≡ true
     → AreSections at bytes (footer_at at bytes)
 sections at bytes h0 h1 h2 h3 h4 h6 =
     let front = mark_stands 0 bytes front_mark h0 in
     let mark = mark_stands (at + 40) bytes end_mark h6 in
-    let p = places at (number_at at bytes) (number_at (at + 8) bytes) (number_at (at + 16) bytes) (number_at (at + 24) bytes)
-    (is_whole at bytes) (is_whole (at + 8) bytes) (is_whole (at + 16) bytes) (is_whole (at + 24) bytes) h1 h2 h3 h4 in
+    let p = places at (number_at at bytes) (number_at (at + 8) bytes) (number_at (at + 16) bytes)
+    (number_at (at + 24) bytes)
+    (is_whole at bytes) (is_whole (at + 8) bytes) (is_whole (at + 16) bytes)
+    (is_whole (at + 24) bytes) h1 h2 h3 h4 in
     record {
       whole = further at (length bytes) mark.0;
       front = front.1;
@@ -137,8 +164,10 @@ sections at bytes h0 h1 h2 h3 h4 h6 =
     further a n h = omega arith
 
 -- the footer that was read number by number
-pub footer_is : (at : ℕ) (bytes : List ℕ) (f : Footer) → f.entries_at ≡ number_at at bytes → f.table_at ≡ number_at (at + 8) bytes
-    → f.postings_at ≡ number_at (at + 16) bytes → f.series ≡ number_at (at + 24) bytes → f.rows ≡ number_at (at + 32) bytes → f ≡ footer_at at bytes
+pub footer_is : (at : ℕ) (bytes : List ℕ) (f : Footer) → f.entries_at ≡ number_at at bytes
+    → f.table_at ≡ number_at (at + 8) bytes
+    → f.postings_at ≡ number_at (at + 16) bytes → f.series ≡ number_at (at + 24) bytes
+    → f.rows ≡ number_at (at + 32) bytes → f ≡ footer_at at bytes
 footer_is at bytes f entries table postings series rows = λ i. record {
   entries_at = entries i;
   table_at = table i;

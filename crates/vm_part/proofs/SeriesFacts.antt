@@ -43,14 +43,20 @@ some_series : (d : ℕ) (rows : List Row) → 1 ≤ length rows → 1 ≤ length
 some_series d rows some =
     let sets : List (List Pair) = map (λ (row : Row). row.labels) rows in
     let many : 1 ≤ length sets = omega (arith, length-map rows (λ (row : Row). row.labels), some) in
-    omega (arith, length-map (sets_among rows) (series_among d rows), some_once label_eq (sorted is_in_label_order sets) (some_sorted is_in_label_order sets many))
+    omega (
+      arith,
+      length-map (sets_among rows) (series_among d rows),
+      some_once label_eq (sorted is_in_label_order sets)
+          (some_sorted is_in_label_order sets many),
+    )
 
 -- ---- their labels and times
 
 abbrev InLimits : List Pair → Type 0
 InLimits set = limit_of set ≡ None
 
-limits_of : (all : List Series) → AllByRecursion (λ (s : Series). InLimits s.labels) all → KeepLimits (map (λ (s : Series). s.labels) all)
+limits_of : (all : List Series) → AllByRecursion (λ (s : Series). InLimits s.labels) all
+    → KeepLimits (map (λ (s : Series). s.labels) all)
 limits_of [] all = tt
 limits_of (s ∷ more) all = (all.0, limits_of more all.1)
 
@@ -58,12 +64,16 @@ abbrev IsEarly : List Pair → Stamped → Type 0
 IsEarly set sample = sample.time < 2 ^ 48
 
 -- the series of some rows that may stand in a part
-pub can_be_stored : (d : ℕ) (rows : List Row) → 1 ≤ length rows → AllByRecursion IsRow rows → CanBeStored (series_of d rows)
+pub can_be_stored : (d : ℕ) (rows : List Row) → 1 ≤ length rows → AllByRecursion IsRow rows
+    → CanBeStored (series_of d rows)
 can_be_stored d rows some all = record {
   some = some_series d rows some;
   are = are_series d rows;
   limits =
       limits_of (series_of d rows)
-      (each_set_kept InLimits d rows (all_more IsRow (λ (row : Row). InLimits row.labels) (λ row is. is.labels) rows all));
-  times = each_kept IsEarly d rows (all_more IsRow (λ (row : Row). IsEarly row.labels (stamped row)) (λ row is. is.time) rows all);
+      (each_set_kept InLimits d rows
+      (all_more IsRow (λ (row : Row). InLimits row.labels) (λ row is. is.labels) rows all));
+  times = each_kept IsEarly d rows
+      (all_more IsRow (λ (row : Row). IsEarly row.labels (stamped row)) (λ row is. is.time) rows
+      all);
 }

@@ -33,20 +33,31 @@ abbrev made : List Pair → List Block → Stored
 made labels blocks = record { labels = labels; blocks = blocks }
 
 -- the blocks of a series are what its entry says
-one_series : (bytes : List ℕ) (end : ℕ) (e : Entry) (labels : List Pair) (blocks : List Block) → e.start ≤ end
-    → (e.blocks ≡ 0 → end ≡ e.start) → e.rows ≤ 8192 * e.blocks → (e.blocks ≡ 0 → e.first_time ≡ 0) → (e.blocks ≡ 0 → e.last_time ≡ 0)
+one_series : (bytes : List ℕ) (end : ℕ) (e : Entry) (labels : List Pair) (blocks : List Block)
+    → e.start ≤ end
+    → (e.blocks ≡ 0 → end ≡ e.start) → e.rows ≤ 8192 * e.blocks → (e.blocks ≡ 0 → e.first_time ≡ 0)
+    → (e.blocks ≡ 0 → e.last_time ≡ 0)
     → SeriesStands bytes end e blocks → OneSeries bytes end e (made labels blocks)
 one_series bytes end e labels [] begins empty most first last stands =
     let no : e.blocks ≡ 0 = sym stands.all in
     let no_rows : e.rows ≡ 0 = omega (arith, no, most) in
     record {
-      entry = λ i. record { start = e.start; blocks = no i; rows = no_rows i; first_time = first no i; last_time = last no i };
+      entry = λ i.
+          record {
+            start = e.start;
+            blocks = no i;
+            rows = no_rows i;
+            first_time = first no i;
+            last_time = last no i;
+          };
       ends = omega (arith, empty no);
       stored = record { blocks = tt; order = tt };
     }
 one_series bytes end e labels (b ∷ more) begins empty most first last stands =
     let blocks = b ∷ more in
-    let whole = stand_whole (end - e.start) e blocks stands.stand stands.all (subst (λ n. 1 ≤ n) stands.all (omega arith)) in
+    let whole =
+    stand_whole (end - e.start) e blocks stands.stand stands.all
+    (subst (λ n. 1 ≤ n) stands.all (omega arith)) in
     record {
       entry = λ i. record {
         start = e.start;
@@ -56,7 +67,11 @@ one_series bytes end e labels (b ∷ more) begins empty most first last stands =
         last_time = sym whole.last i;
       };
       ends = omega (arith, whole.bytes);
-      stored = record { blocks = stand_blocks (end - e.start) e blocks stands.stand; order = stand_order (end - e.start) e blocks stands.stand };
+      stored =
+          record {
+            blocks = stand_blocks (end - e.start) e blocks stands.stand;
+            order = stand_order (end - e.start) e blocks stands.stand;
+          };
     }
 
 -- ---- all series
@@ -70,7 +85,8 @@ stored (labels ∷ sets) (blocks ∷ others) = made labels blocks ∷ stored set
 abbrev all_blocks : List Stored → List ℕ
 all_blocks all = flat_map series_bytes all
 
-pub record AllSeries (bytes : List ℕ) (end start : ℕ) (es : List Entry) (sets : List (List Pair)) (all : List Stored) : Type 0 where
+pub record AllSeries (bytes : List ℕ) (end start : ℕ) (es : List Entry) (sets : List (List Pair))
+    (all : List Stored) : Type 0 where
   pub entries : es ≡ entries_from start all
   pub each : AllByRecursion IsStored all
   pub ends : end ≡ start + length (flat_map series_bytes all)
@@ -78,8 +94,11 @@ pub record AllSeries (bytes : List ℕ) (end start : ℕ) (es : List Entry) (set
   pub rows : sum_by (λ e. e.rows) es ≡ length (flat_map samples_of all)
   pub named : sets_of all ≡ sets
 
-pub all_series : (bytes : List ℕ) (end start : ℕ) (before : Option Entry) (es : List Entry) (sets : List (List Pair)) (bss : List (List Block))
-    → start ≡ end_of end es → length sets ≡ length es → AllKeep end before es → AllStand bytes end es bss
+pub all_series :
+    (bytes : List ℕ) (end start : ℕ) (before : Option Entry) (es : List Entry)
+    (sets : List (List Pair)) (bss : List (List Block))
+    → start ≡ end_of end es → length sets ≡ length es → AllKeep end before es
+    → AllStand bytes end es bss
     → AllSeries bytes end start es sets (stored sets bss)
 all_series bytes end start before [] [] _ begins many keep none = record {
   entries = refl;
@@ -90,12 +109,18 @@ all_series bytes end start before [] [] _ begins many keep none = record {
   named = refl;
 }
 all_series bytes end start before [] (labels ∷ sets) _ begins many keep none = absurd (cc)
-all_series bytes end start before (e ∷ more) [] _ begins many keep (next _ _ blocks others stands rest) = absurd (cc)
-all_series bytes end start before (e ∷ more) (labels ∷ sets) _ begins many keep (next _ _ blocks others stands rest) =
+all_series bytes end start before (e ∷ more) [] _ begins many keep
+    (next _ _ blocks others stands rest) = absurd (cc)
+all_series bytes end start before (e ∷ more) (labels ∷ sets) _ begins many keep
+    (next _ _ blocks others stands rest) =
     let k = keep.0 in
     let rise = places_rise end before (e ∷ more) keep in
-    let one = one_series bytes (end_of end more) e labels blocks rise.0 (empty more keep) k.most (no_time e e.first_time k.first) (no_time e e.last_time k.last) stands in
-    let all = all_series bytes end (end_of end more) (Some e) more sets others refl (omega arith) keep.1 rest in
+    let one =
+    one_series bytes (end_of end more) e labels blocks rise.0 (empty more keep) k.most
+    (no_time e e.first_time k.first) (no_time e e.last_time k.last) stands in
+    let all =
+    all_series bytes end (end_of end more) (Some e) more sets others refl (omega arith) keep.1
+    rest in
     let mine = blocks_bytes blocks in
     let theirs = all_blocks (stored sets others) in
     let ends : end_of end more ≡ start + length mine = omega (arith, one.ends, begins) in
@@ -107,8 +132,10 @@ all_series bytes end start before (e ∷ more) (labels ∷ sets) _ begins many k
       each = (one.stored, all.each);
       ends = omega (arith, all.ends, ends, long);
       spelled =
-          ap (λ n. field n start bytes) long ∙ split_field bytes (length mine) (length theirs) start (end_of end more) ends
-          ∙ ap₂ (λ xs ys. xs ++ ys) (ap (λ n. field (length mine) n bytes) begins ∙ stands.spelled) all.spelled;
+          ap (λ n. field n start bytes) long
+          ∙ split_field bytes (length mine) (length theirs) start (end_of end more) ends
+          ∙ ap₂ (λ xs ys. xs ++ ys) (ap (λ n. field (length mine) n bytes) begins ∙ stands.spelled)
+          all.spelled;
       rows =
           sum_by-cons (λ (x : Entry). x.rows) e more
           ∙ ap₂ (λ x y. x + y) (ap (λ (x : Entry). x.rows) one.entry) all.rows
@@ -116,7 +143,8 @@ all_series bytes end start before (e ∷ more) (labels ∷ sets) _ begins many k
       named = ap (λ ss. labels ∷ ss) all.named;
     }
   where
-    empty : (others : List Entry) → AllKeep end before (e ∷ others) → e.blocks ≡ 0 → end_of end others ≡ e.start
+    empty : (others : List Entry) → AllKeep end before (e ∷ others) → e.blocks ≡ 0
+        → end_of end others ≡ e.start
     empty [] keep = ends_last end e keep.0.ends
     empty (f ∷ others) keep = (follows e f keep.1.0.start).same
 
@@ -126,22 +154,31 @@ module _ (bytes : List ℕ) (are : IsBytes bytes) where
   field_are : (n at : ℕ) → n + at ≤ length bytes → IsBytes (field n at bytes)
   field_are n at fits i =
       elim (cases_lt i n) [
-        | inl inside ↦ rw (get_or-take n (drop at bytes) i 0 inside, get_or-drop at bytes i 0) (are (at + i))
-        | inr past ↦ rw (get_or_past (field n at bytes) i 0 (omega (arith, length-take-le n (drop at bytes) (omega (arith, length-drop at bytes))))) (omega arith)
+        | inl inside ↦
+            rw (get_or-take n (drop at bytes) i 0 inside, get_or-drop at bytes i 0) (are (at + i))
+        | inr past ↦
+            rw (get_or_past (field n at bytes) i 0
+            (omega (arith, length-take-le n (drop at bytes) (omega (arith, length-drop at bytes)))))
+            (omega arith)
       ]
 
   nothing : (xs : List ℕ) → xs ≡ xs
   nothing xs = refl
 
-  one_number : (at : ℕ) → at + 8 ≤ length bytes → to_be_bytes w64 (number_at at bytes) ≡ field 8 at bytes
+  one_number : (at : ℕ) → at + 8 ≤ length bytes
+      → to_be_bytes w64 (number_at at bytes) ≡ field 8 at bytes
   one_number at fits =
-      be_bytes_8 (field 8 at bytes) (number_at at bytes) (length-take-le 8 (drop at bytes) (omega (arith, length-drop at bytes)))
+      be_bytes_8 (field 8 at bytes) (number_at at bytes)
+      (length-take-le 8 (drop at bytes) (omega (arith, length-drop at bytes)))
       (field_are 8 at (omega arith)) refl
 
   abbrev numbers : ℕ → List ℕ
-  numbers at = number_at at bytes ∷ number_at (at + 8) bytes ∷ number_at (at + 16) bytes ∷ number_at (at + 24) bytes ∷ number_at (at + 32) bytes ∷ []
+  numbers at =
+      number_at at bytes ∷ number_at (at + 8) bytes ∷ number_at (at + 16) bytes
+      ∷ number_at (at + 24) bytes ∷ number_at (at + 32) bytes ∷ []
 
-  five_numbers : (at : ℕ) → at + 40 ≤ length bytes → flat_map (to_be_bytes w64) (numbers at) ≡ field 40 at bytes
+  five_numbers : (at : ℕ) → at + 40 ≤ length bytes
+      → flat_map (to_be_bytes w64) (numbers at) ≡ field 40 at bytes
   five_numbers at fits =
       ap₂ (λ xs ys. xs ++ ys) (one_number at (omega arith))
       (ap₂ (λ xs ys. xs ++ ys) (one_number (at + 8) (omega arith))
@@ -154,23 +191,29 @@ module _ (bytes : List ℕ) (are : IsBytes bytes) where
       ∙ sym (split_field bytes 8 24 (at + 8) (at + 16) (omega arith)))
       ∙ sym (split_field bytes 8 32 at (at + 8) refl)
 
-  entries_spelled : (n at : ℕ) → at + 40 * n ≤ length bytes → field (40 * n) at bytes ≡ flat_map entry_bytes (entries_at n at bytes)
+  entries_spelled : (n at : ℕ) → at + 40 * n ≤ length bytes
+      → field (40 * n) at bytes ≡ flat_map entry_bytes (entries_at n at bytes)
   entries_spelled zero at fits = refl
   entries_spelled (suc n) at fits =
       ap (λ k. field k at bytes) (omega arith) ∙ split_field bytes 40 (40 * n) at (at + 40) refl
-      ∙ ap₂ (λ xs ys. xs ++ ys) (sym (five_numbers at (omega arith))) (entries_spelled n (at + 40) (omega arith))
+      ∙ ap₂ (λ xs ys. xs ++ ys) (sym (five_numbers at (omega arith)))
+      (entries_spelled n (at + 40) (omega arith))
 
 -- ---- sections one behind the other
 
 cut : (bytes : List ℕ) (a b : ℕ) → a ≤ b → drop a bytes ≡ field (b - a) a bytes ++ drop b bytes
 cut bytes a b rise =
     sym (take-append-drop (b - a) (drop a bytes))
-    ∙ ap (λ rest. field (b - a) a bytes ++ rest) (drop-drop (b - a) a bytes ∙ ap (λ n. drop n bytes) (omega arith))
+    ∙ ap (λ rest. field (b - a) a bytes ++ rest)
+    (drop-drop (b - a) a bytes ∙ ap (λ n. drop n bytes) (omega arith))
 
-between_long : (bytes : List ℕ) (a b : ℕ) → a ≤ b → b ≤ length bytes → length (field (b - a) a bytes) ≡ b - a
-between_long bytes a b rise within = length-take-le (b - a) (drop a bytes) (omega (arith, length-drop a bytes))
+between_long : (bytes : List ℕ) (a b : ℕ) → a ≤ b → b ≤ length bytes
+    → length (field (b - a) a bytes) ≡ b - a
+between_long bytes a b rise within =
+    length-take-le (b - a) (drop a bytes) (omega (arith, length-drop a bytes))
 
-regroup : (a b e t p f : List ℕ) → a ++ (b ++ (e ++ (t ++ (p ++ f)))) ≡ ((((a ++ b) ++ e) ++ t) ++ p) ++ f
+regroup : (a b e t p f : List ℕ) → a
+    ++ (b ++ (e ++ (t ++ (p ++ f)))) ≡ ((((a ++ b) ++ e) ++ t) ++ p) ++ f
 regroup a b e t p f = sym (simp append_assoc)
 
 -- what stands in the sections of a file is the image of the series
@@ -182,17 +225,22 @@ pub record Sections (at : ℕ) (bytes : List ℕ) (f : Footer) (all : List Store
   pub many : length all ≡ f.series
   pub rows : length (flat_map samples_of all) ≡ f.rows
 
-pub is_image : (at : ℕ) (bytes : List ℕ) (f : Footer) (all : List Stored) → IsBytes bytes → length bytes ≡ at + 48 → AreSections at bytes f
+pub is_image : (at : ℕ) (bytes : List ℕ) (f : Footer) (all : List Stored) → IsBytes bytes
+    → length bytes ≡ at + 48 → AreSections at bytes f
     → f ≡ footer_at at bytes → Sections at bytes f all → bytes ≡ image all
 unfolding image
 is_image at bytes f all are long s f_is says =
     sym (take-append-drop 8 bytes)
     ∙ ap (λ rest. take 8 bytes ++ rest) (cut bytes 8 f.entries_at s.low
     ∙ ap (λ rest. field (f.entries_at - 8) 8 bytes ++ rest) (cut bytes f.entries_at f.table_at rise
-    ∙ ap (λ rest. field (f.table_at - f.entries_at) f.entries_at bytes ++ rest) (cut bytes f.table_at f.postings_at s.table
-    ∙ ap (λ rest. field (f.postings_at - f.table_at) f.table_at bytes ++ rest) (cut bytes f.postings_at at s.postings))))
-    ∙ (λ i. s.front i ++ (says.blocks i ++ (says.entries i ++ (says.table i ++ (says.postings i ++ last i)))))
-    ∙ regroup front_mark (flat_map series_bytes all) (entries all) (table all) (postings all) (footer all)
+    ∙ ap (λ rest. field (f.table_at - f.entries_at) f.entries_at bytes ++ rest)
+    (cut bytes f.table_at f.postings_at s.table
+    ∙ ap (λ rest. field (f.postings_at - f.table_at) f.table_at bytes ++ rest)
+    (cut bytes f.postings_at at s.postings))))
+    ∙ (λ i. s.front i
+    ++ (says.blocks i ++ (says.entries i ++ (says.table i ++ (says.postings i ++ last i)))))
+    ∙ regroup front_mark (flat_map series_bytes all) (entries all) (table all) (postings all)
+    (footer all)
   where
     rise : f.entries_at ≤ f.table_at
     rise = let e = s.entries in omega arith
@@ -200,21 +248,30 @@ is_image at bytes f all are long s f_is says =
     front_long : length (front all) ≡ f.entries_at
     front_long =
         let l = length-append front_mark (flat_map series_bytes all) in
-        let b = sym (ap length says.blocks) ∙ between_long bytes 8 f.entries_at s.low (omega (arith, rise, s.table, s.postings)) in
+        let b = sym (ap length says.blocks)
+        ∙ between_long bytes 8 f.entries_at s.low (omega (arith, rise, s.table, s.postings)) in
         omega (arith, l, b, s.low)
 
     table_place : length (front all) + length (entries all) ≡ f.table_at
     table_place =
-        let e = sym (ap length says.entries) ∙ between_long bytes f.entries_at f.table_at rise (omega (arith, s.table, s.postings)) in
+        let e = sym (ap length says.entries)
+        ∙ between_long bytes f.entries_at f.table_at rise
+        (omega (arith, s.table, s.postings)) in
         omega (arith, e, front_long, rise)
 
     postings_place : length (front all) + length (entries all) + length (table all) ≡ f.postings_at
     postings_place =
-        let t = sym (ap length says.table) ∙ between_long bytes f.table_at f.postings_at s.table (omega (arith, s.postings)) in
+        let t = sym (ap length says.table)
+        ∙ between_long bytes f.table_at f.postings_at s.table (omega (arith, s.postings)) in
         omega (arith, t, table_place, s.table)
 
-    places : flat_map (to_be_bytes w64) (number_at at bytes ∷ number_at (at + 8) bytes ∷ number_at (at + 16) bytes ∷ number_at (at + 24) bytes ∷ number_at (at + 32) bytes ∷ [])
-        ≡ flat_map (to_be_bytes w64) (length (front all) ∷ (length (front all) + length (entries all)) ∷ (length (front all) + length (entries all) + length (table all))
+    places :
+        flat_map (to_be_bytes w64)
+        (number_at at bytes ∷ number_at (at + 8) bytes ∷ number_at (at + 16) bytes
+        ∷ number_at (at + 24) bytes ∷ number_at (at + 32) bytes ∷ [])
+        ≡ flat_map (to_be_bytes w64)
+        (length (front all) ∷ (length (front all) + length (entries all))
+        ∷ (length (front all) + length (entries all) + length (table all))
         ∷ length all ∷ length (flat_map samples_of all) ∷ [])
     places =
         let p0 = sym (front_long ∙ ap (λ (x : Footer). x.entries_at) f_is) in
@@ -232,18 +289,26 @@ is_image at bytes f all are long s f_is says =
 
 -- ---- the part
 
-pub says_all : (at : ℕ) (bytes : List ℕ) (f : Footer) (es : List Entry) (sets : List (List Pair)) → IsBytes bytes → length bytes ≡ at + 48
-    → AreSections at bytes f → f ≡ footer_at at bytes → es ≡ entries_at f.series f.entries_at bytes → length es ≡ f.series → end_of f.entries_at es ≡ 8
+pub says_all : (at : ℕ) (bytes : List ℕ) (f : Footer) (es : List Entry) (sets : List (List Pair))
+    → IsBytes bytes → length bytes ≡ at + 48
+    → AreSections at bytes f → f ≡ footer_at at bytes → es ≡ entries_at f.series f.entries_at bytes
+    → length es ≡ f.series → end_of f.entries_at es ≡ 8
     → AllKeep f.entries_at None es → sum_by (λ e. e.rows) es ≡ f.rows
-    → IsTable f.series (table_in f bytes) sets → postings_in at f bytes ≡ postings_bytes (postings_of sets)
+    → IsTable f.series (table_in f bytes) sets
+    → postings_in at f bytes ≡ postings_bytes (postings_of sets)
     → HasAllBlocks bytes f.entries_at es → length bytes < 2 ^ 64 → f.rows < 2 ^ 64
     → Says (record { bytes = bytes; sets = sets; entries = es; rows = f.rows }) (λ all. Unit {0})
-says_all at bytes f es sets are long s f_is es_are many begins keep rows is_table postings_are has small few =
+says_all at bytes f es sets are long s f_is es_are many begins keep rows is_table postings_are has
+    small few =
     let all = stored sets has.blocks in
-    let series = all_series bytes f.entries_at 8 None es sets has.blocks (sym begins) (is_table.many ∙ sym many) keep has.stand in
-    let count : length all ≡ f.series = sym (length-map all (λ (x : Stored). x.labels)) ∙ ap length series.named ∙ is_table.many in
+    let series =
+    all_series bytes f.entries_at 8 None es sets has.blocks (sym begins)
+    (is_table.many ∙ sym many) keep has.stand in
+    let count : length all ≡ f.series = sym (length-map all (λ (x : Stored). x.labels))
+    ∙ ap length series.named ∙ is_table.many in
     let counted : length (flat_map samples_of all) ≡ f.rows = sym series.rows ∙ rows in
-    let blocks_len : f.entries_at - 8 ≡ length (flat_map series_bytes all) = omega (arith, series.ends) in
+    let blocks_len : f.entries_at - 8 ≡ length (flat_map series_bytes all) =
+    omega (arith, series.ends) in
     let entries_len : f.table_at - f.entries_at ≡ 40 * f.series = omega (arith, s.entries) in
     record {
       all = all;
@@ -258,7 +323,8 @@ says_all at bytes f es sets are long s f_is es_are many begins keep rows is_tabl
             blocks = ap (λ n. field n 8 bytes) blocks_len ∙ series.spelled;
             entries =
                 ap (λ n. field n f.entries_at bytes) entries_len
-                ∙ entries_spelled bytes are f.series f.entries_at (omega (arith, s.entries, s.table, s.postings))
+                ∙ entries_spelled bytes are f.series f.entries_at
+                (omega (arith, s.entries, s.table, s.postings))
                 ∙ ap (flat_map entry_bytes) (sym es_are ∙ series.entries);
             table = is_table.spelled ∙ ap table_bytes (sym series.named);
             postings = postings_are ∙ ap (λ ss. postings_bytes (postings_of ss)) (sym series.named);

@@ -27,9 +27,11 @@ next_len begun = min 163880 (length begun.part.bytes - begun.done)
 
 -- after that write
 abbrev pub written_on : Begun → Begun
-written_on begun = record { file = begun.file; part = begun.part; done = begun.done + next_len begun }
+written_on begun =
+    record { file = begun.file; part = begun.part; done = begun.done + next_len begun }
 
--- What was written stands in the file, and behind it there is nothing that the next write doesn't put over.
+-- What was written stands in the file, and behind it there is nothing that the next write doesn't
+-- put over.
 pub record HasWritten (begun : Begun) (files : Image) : Type 0 where
   pub within : length (files begun.file) ≤ begun.done + next_len begun
   pub written : take begun.done (files begun.file) ≡ take begun.done begun.part.bytes
@@ -42,7 +44,8 @@ IsStep old new Synced = (next_len old ≡ 0) × (new ≡ old)
 -- once it is synced, a crash leaves the part whole
 abbrev pub IsDurable : Begun → (ℕ → List ℕ → Type 0) → Writing → Type 0
 IsDurable begun may_leave More = ⊤
-IsDurable begun may_leave Synced = (left : List ℕ) → may_leave begun.file left → left ≡ begun.part.bytes
+IsDurable begun may_leave Synced = (left : List ℕ) → may_leave begun.file left
+    → left ≡ begun.part.bytes
 
 -- ---- opening
 

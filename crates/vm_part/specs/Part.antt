@@ -86,14 +86,16 @@ entry_of start s = record {
 -- the same of each of these, whose blocks stand one after the other
 abbrev pub entries_from : ℕ → List Stored → List Entry
 entries_from start [] = []
-entries_from start (s ∷ more) = entry_of start s ∷ entries_from (start + length (blocks_bytes s.blocks)) more
+entries_from start (s ∷ more) =
+    entry_of start s ∷ entries_from (start + length (blocks_bytes s.blocks)) more
 
 -- the blocks begin behind the front's 8 bytes
 abbrev pub entries_of : List Stored → List Entry
 entries_of all = entries_from 8 all
 
 abbrev pub entry_bytes : Entry → List ℕ
-entry_bytes e = flat_map (to_be_bytes w64) (e.start ∷ e.blocks ∷ e.rows ∷ e.first_time ∷ e.last_time ∷ [])
+entry_bytes e =
+    flat_map (to_be_bytes w64) (e.start ∷ e.blocks ∷ e.rows ∷ e.first_time ∷ e.last_time ∷ [])
 
 -- the words at both ends of a file
 abbrev pub front_mark : List ℕ
@@ -121,14 +123,16 @@ footer all =
     let entries_at = length (front all) in
     let table_at = entries_at + length (entries all) in
     let postings_at = table_at + length (table all) in
-    flat_map (to_be_bytes w64) (entries_at ∷ table_at ∷ postings_at ∷ length all ∷ length (flat_map samples_of all) ∷ [])
+    flat_map (to_be_bytes w64)
+    (entries_at ∷ table_at ∷ postings_at ∷ length all ∷ length (flat_map samples_of all) ∷ [])
     ++ end_mark
 
 -- the bytes of a part that holds these series
 unfoldable pub image : List Stored → List ℕ
 image all = front all ++ entries all ++ table all ++ postings all ++ footer all
 
--- The grammar: the bytes are a part that holds these series. All its places and counts are numbers of eight bytes.
+-- The grammar: the bytes are a part that holds these series. All its places and counts are numbers
+-- of eight bytes.
 pub record IsPart (bytes : List ℕ) (all : List Stored) : Type 0 where
   pub stored : AreStored all
   pub spelled : bytes ≡ image all

@@ -15,8 +15,8 @@ use Rattle.vm_part.specs.declared.entry.Entry.{Entry}
 
 -- ---- what is kept
 
--- the bytes of a file, and what was read of them: the label sets and the entries of its series, and how many
--- rows there are
+-- the bytes of a file, and what was read of them: the label sets and the entries of its series, and
+-- how many rows there are
 pub record Kept : Type 0 where
   pub bytes : List ℕ
   pub sets : List (List Pair)
@@ -47,7 +47,8 @@ pub record IsRow (row : Row) : Type 0 where
 abbrev pub InTime : Series → Type 0
 InTime series = AllByRecursion (λ sample. sample.time < 2 ^ 48) series.samples
 
--- series that a part can hold: some, in label order, with samples in order, within the limits of an import
+-- series that a part can hold: some, in label order, with samples in order, within the limits of an
+-- import
 pub record CanBeStored (series : List Series) : Type 0 where
   pub some : 1 ≤ length series
   pub are : AreSeries series
@@ -64,7 +65,8 @@ pub record AreBlocks (samples : List Stamped) (blocks : List Block) : Type 0 whe
 -- the same series, one by one
 pub data AreCutUp : List Series → List Stored → Type 0 where
   none : AreCutUp [] []
-  next : (series : List Series) (all : List Stored) (s : Series) (t : Stored) → t.labels ≡ s.labels → AreBlocks s.samples t.blocks
+  next : (series : List Series) (all : List Stored) (s : Series) (t : Stored) → t.labels ≡ s.labels
+      → AreBlocks s.samples t.blocks
       → AreCutUp series all → AreCutUp (s ∷ series) (t ∷ all)
 
 -- a part that was made of these series
@@ -84,7 +86,8 @@ rows_in all = flat_map rows_of all
 -- each of these parts holds the series beside it
 pub data Hold : List Kept → List (List Stored) → Type 0 where
   none : Hold [] []
-  next : (parts : List Kept) (alls : List (List Stored)) (part : Kept) (all : List Stored) → IsPart part.bytes all
+  next : (parts : List Kept) (alls : List (List Stored)) (part : Kept) (all : List Stored)
+      → IsPart part.bytes all
       → Hold parts alls → Hold (part ∷ parts) (all ∷ alls)
 
 -- a part that was made of the rows of other parts, thinned at an interval

@@ -63,7 +63,8 @@ fn check_series(
     requires end { blocks_end ≤ entries_at }
     requires within { entries_at ≤ length bytes.now }
     ensures stand { OnOk result (HasSeries bytes.now blocks_end entry.now) }
-    ensures broken { IfErr result (λ fault. IsSeriesFault bytes.now entries_at blocks_end entry.now fault) }
+    ensures broken { IfErr result
+        (λ fault. IsSeriesFault bytes.now entries_at blocks_end entry.now fault) }
 {
     let mut seen = Seen {
         blocks: 0,
@@ -85,7 +86,8 @@ fn check_series(
     Ok(())
 }
 
-/// How long the block in front of these bytes is, which is then seen too. There is so much room for it.
+/// How long the block in front of these bytes is, which is then seen too. There is so much room for
+/// it.
 fn check_block(
     alloc: Global,
     rest: &[u8],
@@ -139,8 +141,8 @@ fn read_body(alloc: Global, header: &BlockHeader, body: &[u8]) -> Result<List<St
     }
 }
 
-/// Whether a block with this header may stand behind those that were seen, where so many samples of the
-/// series are left.
+/// Whether a block with this header may stand behind those that were seen, where so many samples of
+/// the series are left.
 fn may_come(room: u64, left: u64, entry: &Entry, seen: &Seen, header: &BlockHeader) -> bool
     requires header { IsHeader header.now }
     requires few { seen.now.blocks < entry.now.blocks }

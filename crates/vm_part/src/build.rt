@@ -16,8 +16,8 @@ use vm_index::Index;
 use vm_labels::Labels;
 use vm_series::Series;
 
-/// The part that holds these series, which rise in label order, keep the limits of an import and have some
-/// samples each, in order.
+/// The part that holds these series, which rise in label order, keep the limits of an import and
+/// have some samples each, in order.
 pub(crate) fn build(alloc: Global, series: List<Series>) -> Result<MemPart, AllocError>
     requires { CanBeStored series }
     ensures { IfOk result (λ part. IsMadeOf series part) }

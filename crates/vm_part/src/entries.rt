@@ -22,9 +22,11 @@ pub(crate) fn read_entries(
 ) -> Result<List<Entry>, ReadFault>
     requires place { footer.now.entries_at + 40 * footer.now.series ≡ footer.now.table_at }
     requires within { footer.now.table_at ≤ length bytes.now }
-    ensures entries { IfOk result (λ entries. entries ≡ entries_at footer.now.series footer.now.entries_at bytes.now) }
+    ensures entries { IfOk result
+        (λ entries. entries ≡ entries_at footer.now.series footer.now.entries_at bytes.now) }
     ensures kept { OnOk result (first_broken (entries_section_rules footer.now bytes.now) ≡ None) }
-    ensures broken { IfErr result (λ fault. IsFaultOf (entries_section_rules footer.now bytes.now) fault) }
+    ensures broken { IfErr result
+        (λ fault. IsFaultOf (entries_section_rules footer.now bytes.now) fault) }
 {
     let mut entries = List::new(alloc);
     let mut before = None;
@@ -69,8 +71,8 @@ fn adds_up(is_last: bool, so_far: u128, rows: u64) -> bool
     !is_last || so_far == u128::from(rows)
 }
 
-/// Sees that an entry at a place keeps its rules. The blocks of all series end at `end`, and `adds_up` is
-/// false where the rows of all entries are wrong, which is found at the last one.
+/// Sees that an entry at a place keeps its rules. The blocks of all series end at `end`, and
+/// `adds_up` is false where the rows of all entries are wrong, which is found at the last one.
 fn check_entry(
     end: u64,
     at: u64,
@@ -80,8 +82,10 @@ fn check_entry(
     entry: &Entry,
 ) -> Result<(), Broken>
     requires { at + 40 < 2 ^ 64 }
-    ensures kept { OnOk result (first_broken (entry_rules end at before is_last adds_up entry.now) ≡ None) }
-    ensures broken { IfErr result (λ e. first_broken (entry_rules end at before is_last adds_up entry.now) ≡ Some e.at) }
+    ensures kept { OnOk result
+        (first_broken (entry_rules end at before is_last adds_up entry.now) ≡ None) }
+    ensures broken { IfErr result
+        (λ e. first_broken (entry_rules end at before is_last adds_up entry.now) ≡ Some e.at) }
 {
     check(
         may_start(before, entry.start) && ends_there(end, is_last, entry),
@@ -133,14 +137,17 @@ fn may_have_rows(blocks: u64, rows: u64) -> bool
 
 /// Whether a series may begin at its first time.
 fn may_begin(entry: &Entry) -> bool
-    ensures { result ≡ (is_time entry.now.first_time && none_without_blocks entry.now entry.now.first_time) }
+    ensures { result
+        ≡ (is_time entry.now.first_time && none_without_blocks entry.now entry.now.first_time) }
 {
     entry.first_time <= MAX_TIME && (entry.blocks > 0 || entry.first_time == 0)
 }
 
 /// Whether a series may end at its last time.
 fn may_end(entry: &Entry) -> bool
-    ensures { result ≡ (is_last_time entry.now.first_time entry.now.last_time && none_without_blocks entry.now entry.now.last_time) }
+    ensures { result
+        ≡ (is_last_time entry.now.first_time entry.now.last_time
+        && none_without_blocks entry.now entry.now.last_time) }
 {
     entry.last_time <= MAX_TIME
         && entry.first_time <= entry.last_time

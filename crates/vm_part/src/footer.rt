@@ -28,14 +28,15 @@ pub(crate) struct Footer {
     pub rows: u64,
 }
 
-/// The footer of a file of so many bytes. The marks at both ends stand there, and the footer's fields
-/// keep their rules.
+/// The footer of a file of so many bytes. The marks at both ends stand there, and the footer's
+/// fields keep their rules.
 pub(crate) fn read_footer(len: u64, bytes: &[u8]) -> Result<Footer, Broken>
     requires { 56 ≤ len }
     ensures footer { IfOk result (λ footer. footer ≡ footer_at (len - 48) bytes.now) }
     ensures sections { IfOk result (λ footer. AreSections (len - 48) bytes.now footer) }
     ensures kept { OnOk result (first_broken (front_rules (len - 48) bytes.now) ≡ None) }
-    ensures broken { IfErr result (λ e. first_broken (front_rules (len - 48) bytes.now) ≡ Some e.at) }
+    ensures broken { IfErr result
+        (λ e. first_broken (front_rules (len - 48) bytes.now) ≡ Some e.at) }
 {
     let at = len - 48;
     check(has_mark(bytes, 0, FRONT_MARK), 0)?;
@@ -86,7 +87,8 @@ fn read_postings_at(bytes: &[u8], at: u64, table_at: u64) -> Result<u64, Broken>
     requires table { table_at ≡ number_at (at + 8) bytes.now }
     ensures number { IfOk result (λ n. n ≡ number_at (at + 16) bytes.now) }
     ensures kept { OnOk result (is_postings_place at bytes.now ≡ true) }
-    ensures broken { IfErr result (λ e. (is_postings_place at bytes.now ≡ false) × (e.at ≡ at + 16)) }
+    ensures broken { IfErr result
+        (λ e. (is_postings_place at bytes.now ≡ false) × (e.at ≡ at + 16)) }
 {
     let postings_at = read_number(bytes, at + 16)?;
     check(table_at <= postings_at && postings_at <= at, at + 16)?;

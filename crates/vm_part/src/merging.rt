@@ -89,8 +89,11 @@ pub(crate) fn pieces_of_parts<'a>(
     read: &'a [List<List<Stamped>>],
 ) -> Result<Vec<Piece<'a>>, AllocError>
     requires { AreRead (map (λ part. part.value) parts.now) read.now }
-    ensures { IfOk result (λ pieces. (alls : List (List Stored)) → AllZip SaysAll (map (λ part. part.value) parts.now) alls
-        → read.now ≡ map (map samples_of) alls → flat_map rows_of_piece pieces.items ≡ flat_map rows_in alls) }
+    ensures { IfOk result
+        (λ pieces. (alls : List (List Stored))
+        → AllZip SaysAll (map (λ part. part.value) parts.now) alls
+        → read.now ≡ map (map samples_of) alls
+        → flat_map rows_of_piece pieces.items ≡ flat_map rows_in alls) }
 {
     let mut pieces = Vec::new(alloc);
     for at in 0..parts.len() {

@@ -47,7 +47,8 @@ pub(crate) fn put_footer(out: &mut Vec<u8>, footer: &Footer) -> Result<(), Alloc
 
 /// Appends numbers, each with its highest byte first.
 fn put_numbers(out: &mut Vec<u8>, numbers: &[u64]) -> Result<(), AllocError>
-    ensures { OnOk result (out.new.items ≡ out.old.items ++ flat_map (to_be_bytes w64) numbers.now) }
+    ensures { OnOk result
+        (out.new.items ≡ out.old.items ++ flat_map (to_be_bytes w64) numbers.now) }
 {
     for number in numbers {
         out.extend_from_slice(&number.to_be_bytes())?;

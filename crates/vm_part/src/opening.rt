@@ -13,9 +13,11 @@ use std::cmp::min;
 use std::rc::Rc;
 use vm_outside::{Disk, ReadFault as FileFault};
 
-/// Opens the part that the first `len` bytes of a file are. It reads them all, and checks all of them.
+/// Opens the part that the first `len` bytes of a file are. It reads them all, and checks all of
+/// them.
 ///
-/// `Damaged` names the first wrong field, as `MemPart::read` does: also where the file has fewer bytes.
+/// `Damaged` names the first wrong field, as `MemPart::read` does: also where the file has fewer
+/// bytes.
 pub fn open_part<D: Disk>(
     alloc: Global,
     disk: &mut D,

@@ -18,8 +18,8 @@ use vm_index::Index;
 use vm_labels::Batch;
 use vm_series::gather;
 
-/// An immutable part in memory, whole: the bytes of its file, and what they say of its series. Contracts see
-/// the bytes, the label sets, the entries and the number of rows.
+/// An immutable part in memory, whole: the bytes of its file, and what they say of its series.
+/// Contracts see the bytes, the label sets, the entries and the number of rows.
 #[derive(Debug, Drop)]
 pub struct MemPart {
     /// The bytes of the file.
@@ -38,16 +38,31 @@ impl Model for MemPart {
 
     ghost Value = { Kept };
 
-    ghost view = { λ part. record { bytes = part.bytes.items; sets = part.index; entries = part.entries; rows = part.rows } };
+    ghost view = { λ part.
+        record {
+          bytes = part.bytes.items;
+          sets = part.index;
+          entries = part.entries;
+          rows = part.rows;
+        } };
 
-    ghost invariant = { λ part. Says (record { bytes = part.bytes.items; sets = part.index; entries = part.entries; rows = part.rows }) (λ all. ⊤) };
+    ghost invariant = { λ part.
+        Says (record {
+          bytes = part.bytes.items;
+          sets = part.index;
+          entries = part.entries;
+          rows = part.rows;
+        }) (λ all. ⊤) };
 }
 
 impl MemPart {
     /// What was read of the bytes of a part, or written of one.
     pub(crate) fn keep(bytes: Vec<u8>, index: Index, entries: List<Entry>, rows: u64) -> MemPart
-        requires { Says (record { bytes = bytes.items; sets = index; entries = entries; rows = rows }) (λ all. ⊤) }
-        ensures { result ≡ record { bytes = bytes.items; sets = index; entries = entries; rows = rows } }
+        requires { Says
+            (record { bytes = bytes.items; sets = index; entries = entries; rows = rows })
+            (λ all. ⊤) }
+        ensures { result
+            ≡ record { bytes = bytes.items; sets = index; entries = entries; rows = rows } }
     {
         MemPart {
             bytes,
@@ -70,15 +85,16 @@ impl MemPart {
         build(alloc, series)
     }
 
-    /// The part that holds what is seen of the rows of some parts, where of each interval of so many ms only
-    /// the last sample is; all are with an interval of 0 ms. Some part has a row.
+    /// The part that holds what is seen of the rows of some parts, where of each interval of so
+    /// many ms only the last sample is; all are with an interval of 0 ms. Some part has a row.
     pub fn of_parts(
         alloc: Global,
         parts: &[Rc<MemPart>],
         interval: u64,
     ) -> Result<MemPart, AllocError>
         requires { IsTrue (list_any (λ part. nat_lt 0 part.value.rows) parts.now) }
-        ensures { IfOk result (λ part. IsMergedOf interval (map (λ part. part.value) parts.now) part) }
+        ensures { IfOk result
+            (λ part. IsMergedOf interval (map (λ part. part.value) parts.now) part) }
     {
         let read = read_parts(alloc, parts)?;
         let pieces = pieces_of_parts(alloc, parts, read.as_slice())?;
@@ -86,8 +102,8 @@ impl MemPart {
         build(alloc, series)
     }
 
-    /// The bytes of the part's file. A caller learns from it that they are a part with these label sets,
-    /// entries and rows.
+    /// The bytes of the part's file. A caller learns from it that they are a part with these label
+    /// sets, entries and rows.
     pub fn image(&self) -> &[u8]
         ensures bytes { result.now ≡ self.now.bytes }
         ensures part { Says self.now (λ all. ⊤) }
@@ -121,7 +137,9 @@ impl MemPart {
     /// The samples of a series, by its ordinal, in order.
     pub fn samples(&self, alloc: Global, ordinal: u64) -> Result<List<Stamped>, AllocError>
         requires { ordinal < length self.now.sets }
-        ensures { IfOk result (λ samples. Says self.now (λ all. slice_get (map samples_of all) ordinal ≡ Some samples)) }
+        ensures { IfOk result
+            (λ samples.
+            Says self.now (λ all. slice_get (map samples_of all) ordinal ≡ Some samples)) }
     {
         let bytes = self.image();
         let said = self.entry(ordinal);

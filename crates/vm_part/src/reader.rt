@@ -11,7 +11,8 @@ use std::rc::Rc;
 use vm_base::{List, Stamped};
 use vm_index::Index;
 
-/// A part that was opened from a file, or written into one. Contracts see the file's number and the part.
+/// A part that was opened from a file, or written into one. Contracts see the file's number and the
+/// part.
 #[derive(Debug, Drop)]
 pub struct PartReader {
     file: u64,
@@ -65,7 +66,9 @@ impl PartReader {
     /// The samples of a series, by its ordinal, in order.
     pub fn samples(&self, alloc: Global, ordinal: u64) -> Result<List<Stamped>, AllocError>
         requires { ordinal < length self.now.part.sets }
-        ensures { IfOk result (λ samples. Says self.now.part (λ all. slice_get (map samples_of all) ordinal ≡ Some samples)) }
+        ensures { IfOk result
+            (λ samples.
+            Says self.now.part (λ all. slice_get (map samples_of all) ordinal ≡ Some samples)) }
     {
         self.part.samples(alloc, ordinal)
     }

@@ -25,14 +25,18 @@ const FOOTER_LEN: u64 = 48;
 const MIN_LEN: u64 = 56;
 
 impl MemPart {
-    /// The part that these bytes are, which are to be so many: where a file is shorter, its bytes are cut off.
+    /// The part that these bytes are, which are to be so many: where a file is shorter, its bytes
+    /// are cut off.
     ///
-    /// `Broken` names the place of the first field that is cut off or breaks its rule, in the order in which
-    /// a part is read: its front, the footer, the entries, the label table, the postings and the blocks.
+    /// `Broken` names the place of the first field that is cut off or breaks its rule, in the order
+    /// in which a part is read: its front, the footer, the entries, the label table, the postings
+    /// and the blocks.
     pub fn read(alloc: Global, len: u64, bytes: Vec<u8>) -> Result<MemPart, ReadFault>
         requires { length bytes.items ≤ len }
-        ensures found { IfOk result (λ part. (part.bytes ≡ bytes.items) × (length bytes.items ≡ len)) }
-        ensures only { (all : List Stored) → IsPart bytes.items all → length bytes.items ≡ len → IfErr result (λ fault. fault ≡ Memory) }
+        ensures found { IfOk result
+            (λ part. (part.bytes ≡ bytes.items) × (length bytes.items ≡ len)) }
+        ensures only { (all : List Stored) → IsPart bytes.items all → length bytes.items ≡ len
+            → IfErr result (λ fault. fault ≡ Memory) }
         ensures broken { IfErr result (λ fault. IsReadFault len bytes.items fault) }
     {
         let found = find(alloc, len, bytes.as_slice())?;
@@ -51,7 +55,14 @@ struct Found {
 /// What is found in the bytes of a file that is to have so many.
 fn find(alloc: Global, len: u64, bytes: &[u8]) -> Result<Found, ReadFault>
     requires { length bytes.now ≤ len }
-    ensures says { IfOk result (λ found. Says (record { bytes = bytes.now; sets = found.index; entries = found.entries; rows = found.rows }) (λ all. ⊤)) }
+    ensures says { IfOk result
+        (λ found.
+        Says (record {
+          bytes = bytes.now;
+          sets = found.index;
+          entries = found.entries;
+          rows = found.rows;
+        }) (λ all. ⊤)) }
     ensures long { OnOk result (length bytes.now ≡ len) }
     ensures broken { IfErr result (λ fault. IsReadFault len bytes.now fault) }
 {
@@ -72,8 +83,10 @@ fn find(alloc: Global, len: u64, bytes: &[u8]) -> Result<Found, ReadFault>
 /// The label index of a file whose footer stands at a place.
 fn read_index(alloc: Global, at: u64, bytes: &[u8], footer: &Footer) -> Result<Index, ReadFault>
     requires { AreSections at bytes.now footer.now }
-    ensures table { IfOk result (λ sets. IsTable footer.now.series (table_in footer.now bytes.now) sets) }
-    ensures postings { IfOk result (λ sets. postings_in at footer.now bytes.now ≡ postings_bytes (postings_of sets)) }
+    ensures table { IfOk result
+        (λ sets. IsTable footer.now.series (table_in footer.now bytes.now) sets) }
+    ensures postings { IfOk result
+        (λ sets. postings_in at footer.now bytes.now ≡ postings_bytes (postings_of sets)) }
     ensures broken { IfErr result (λ fault. IsIndexFault at footer.now bytes.now fault) }
 {
     let table = &bytes[footer.table_at as usize..footer.postings_at as usize];

@@ -26,11 +26,11 @@ pub enum Writing {
     Synced,
 }
 
-/// A part on its way into a file, and how far it came. Contracts see the file's number, the part, and how
-/// many of its bytes were written.
+/// A part on its way into a file, and how far it came. Contracts see the file's number, the part,
+/// and how many of its bytes were written.
 ///
-/// Make steps until one answers `Synced`. Each step is one call on the disk, so other work can be done between
-/// two.
+/// Make steps until one answers `Synced`. Each step is one call on the disk, so other work can be
+/// done between two.
 #[derive(Debug, Drop)]
 pub struct PartWriter {
     file: u64,
@@ -47,14 +47,16 @@ impl Model for PartWriter {
 
     ghost view = { λ writer. record { file = writer.file; part = writer.part.value; done = writer.done } };
 
-    ghost invariant = { λ writer. (writer.done ≤ length writer.part.value.bytes) × (length writer.part.value.bytes ≤ 2 ^ 61) };
+    ghost invariant = { λ writer. (writer.done ≤ length writer.part.value.bytes)
+        × (length writer.part.value.bytes ≤ 2 ^ 61) };
 }
 
 impl PartWriter {
-    /// Begins to write a part into a file, of which nothing is written yet. It takes no memory. A part of more
-    /// than 2^61 bytes is refused.
+    /// Begins to write a part into a file, of which nothing is written yet. It takes no memory. A
+    /// part of more than 2^61 bytes is refused.
     pub fn begin_image(file: u64, part: Rc<MemPart>) -> Result<PartWriter, PartTooLong>
-        ensures begun { IfOk result (λ begun. begun ≡ record { file = file; part = part.value; done = 0 }) }
+        ensures begun { IfOk result
+            (λ begun. begun ≡ record { file = file; part = part.value; done = 0 }) }
         ensures fits { OnOk result (length part.value.bytes ≤ 2 ^ 61) }
         ensures too_long { OnErr result (2 ^ 61 < length part.value.bytes) }
     {
@@ -68,8 +70,9 @@ impl PartWriter {
         })
     }
 
-    /// Writes the next 163,880 bytes of the part, or all that are left where these are fewer. Where none are
-    /// left it syncs the file. The file is one into which this writer alone writes, empty at the beginning.
+    /// Writes the next 163,880 bytes of the part, or all that are left where these are fewer. Where
+    /// none are left it syncs the file. The file is one into which this writer alone writes, empty
+    /// at the beginning.
     ///
     /// After an error the writer is unchanged, and the same call may be made again.
     pub fn finish_step<D: Disk>(&mut self, disk: &mut D) -> Result<Writing, Failed>

@@ -9,7 +9,9 @@ use Rattle.regex_syntax.specs.Grammar.{Names, read}
 
 -- the text is an expression that isn't nested too deeply
 abbrev pub IsExpression : List ℕ → Type 0
-IsExpression text = IsSomeAnd (read default_config (chars text)) (λ (re, names). re.depth ≤ default_config.nest_limit)
+IsExpression text =
+    IsSomeAnd (read default_config (chars text))
+    (λ (re, names). re.depth ≤ default_config.nest_limit)
 
 -- the expression that matches a value where the pattern matches all of it
 abbrev pub anchored : List ℕ → List ℕ
@@ -40,7 +42,8 @@ in_span value (Some (first, end)) = slice_range value first end
 -- The texts of a match and of its groups 1 to 9, empty for a group that takes no part.
 abbrev pub group_texts : List ℕ → Match → List (List ℕ)
 group_texts value found =
-    in_span value (Some (span found)) ∷ map (λ n. in_span value (group_of found n)) (1 ∷ 2 ∷ 3 ∷ 4 ∷ 5 ∷ 6 ∷ 7 ∷ 8 ∷ 9 ∷ [])
+    in_span value (Some (span found))
+    ∷ map (λ n. in_span value (group_of found n)) (1 ∷ 2 ∷ 3 ∷ 4 ∷ 5 ∷ 6 ∷ 7 ∷ 8 ∷ 9 ∷ [])
 
 -- those of the match of a pattern with a whole value
 abbrev pub whole_groups : List ℕ → List ℕ → Option (List (List ℕ))

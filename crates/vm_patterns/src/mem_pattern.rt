@@ -122,7 +122,8 @@ fn texts(
 
 /// The text of a group, empty where it took no part.
 fn text<'h>(captures: &Captures<'_, 'h>, group: usize) -> &'h str
-    ensures { result.now ≡ in_span (captures_haystack captures.now) (captures_span captures.now group) }
+    ensures { result.now
+        ≡ in_span (captures_haystack captures.now) (captures_span captures.now group) }
 {
     match captures.get(group) {
         Some(found) => found.as_str(),

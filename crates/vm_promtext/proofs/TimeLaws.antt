@@ -22,7 +22,8 @@ pub all_blank : (text : List ℕ) → length (behind_blanks text) ≡ 0 → AreB
 all_blank [] none = tt
 all_blank (byte ∷ text) none = go (is_blank byte) refl none (all_blank text)
   where
-    go : (b : Bool) → is_blank byte ≡ b → length (cond b (behind_blanks text) (byte ∷ text)) ≡ 0 → (length (behind_blanks text) ≡ 0 → AreBlank text) → AreBlank (byte ∷ text)
+    go : (b : Bool) → is_blank byte ≡ b → length (cond b (behind_blanks text) (byte ∷ text)) ≡ 0
+        → (length (behind_blanks text) ≡ 0 → AreBlank text) → AreBlank (byte ∷ text)
     go true blank none rest = (blank, rest none)
     go false blank none rest = absurd (omega arith)
 
@@ -50,27 +51,36 @@ not_blank_none : (text : List ℕ) → EndsAt is_blank text → AreBlank text �
 not_blank_none [] ends are = refl
 not_blank_none (byte ∷ text) ends are = absurd (true≢false (sym are.0 ∙ ends))
 
-digit_some : (text : List ℕ) → (prefix_len is_ascii_digit text ≡ 0 → ⊥) → take (prefix_len is_ascii_digit text) text ≢ []
+digit_some : (text : List ℕ) → (prefix_len is_ascii_digit text ≡ 0 → ⊥)
+    → take (prefix_len is_ascii_digit text) text ≢ []
 digit_some text some none =
-    let len : length (take (prefix_len is_ascii_digit text) text) ≡ prefix_len is_ascii_digit text = length-take-le (prefix_len is_ascii_digit text) text (prefix_len-le-length is_ascii_digit text) in
+    let len : length (take (prefix_len is_ascii_digit text) text) ≡ prefix_len is_ascii_digit text =
+    length-take-le (prefix_len is_ascii_digit text) text
+    (prefix_len-le-length is_ascii_digit text) in
     some (sym len ∙ ap length none)
 
-digit_first : (byte : ℕ) (text digits rest : List ℕ) → byte ∷ text ≡ digits ++ rest → digits ≢ [] → list_all is_ascii_digit digits ≡ true → is_ascii_digit byte ≡ true
+digit_first : (byte : ℕ) (text digits rest : List ℕ) → byte ∷ text ≡ digits ++ rest → digits ≢ []
+    → list_all is_ascii_digit digits ≡ true → is_ascii_digit byte ≡ true
 digit_first byte text [] rest parts some are = absurd (some refl)
 digit_first byte text (d ∷ digits) rest parts some are =
     let same : byte ≡ d = cc in
     ap is_ascii_digit same ∙ (and_parts (is_ascii_digit d) (list_all is_ascii_digit digits) are).0
 
-digit_count : (byte : ℕ) (text : List ℕ) → is_ascii_digit byte ≡ true → prefix_len is_ascii_digit (byte ∷ text) ≡ 0 → ⊥
+digit_count : (byte : ℕ) (text : List ℕ) → is_ascii_digit byte ≡ true
+    → prefix_len is_ascii_digit (byte ∷ text) ≡ 0 → ⊥
 digit_count byte text digit none =
-    let len : prefix_len is_ascii_digit (byte ∷ text) ≡ 1 + prefix_len is_ascii_digit text = rw digit refl in
+    let len : prefix_len is_ascii_digit (byte ∷ text) ≡ 1 + prefix_len is_ascii_digit text =
+    rw digit refl in
     absurd (omega arith)
 
 -- digits with something after them
-counted_is : (M : List ℕ → List ℕ → Type 0) (digits rest more : List ℕ) → list_all is_ascii_digit digits ≡ true → EndsAt is_ascii_digit more
-    → ((d : List ℕ) (r : List ℕ) → M d r → AreBlank r) → (c : Counted M (digits ++ more)) → (c.digits ≡ digits) × (c.rest ≡ more)
+counted_is : (M : List ℕ → List ℕ → Type 0) (digits rest more : List ℕ)
+    → list_all is_ascii_digit digits ≡ true → EndsAt is_ascii_digit more
+    → ((d : List ℕ) (r : List ℕ) → M d r → AreBlank r) → (c : Counted M (digits ++ more))
+    → (c.digits ≡ digits) × (c.rest ≡ more)
 counted_is M digits rest more are ends blank c =
-    one_span is_ascii_digit c.digits digits c.rest more c.are are (blank_ends c.rest (blank c.digits c.rest c.then)) ends (sym c.parts)
+    one_span is_ascii_digit c.digits digits c.rest more c.are are
+    (blank_ends c.rest (blank c.digits c.rest c.then)) ends (sym c.parts)
 
 counted_none : (M : List ℕ → List ℕ → Type 0) → Counted M [] → ⊥
 counted_none M c = go c.digits c.parts c.some
@@ -80,7 +90,8 @@ counted_none M c = go c.digits c.parts c.some
     go (d ∷ digits) parts some = cc
 
 counted_never : (M : List ℕ → List ℕ → Type 0) → NeverBegins is_blank (Counted M)
-counted_never M byte more blank c = digit_not_blank byte (digit_first byte more c.digits c.rest c.parts c.some c.are) blank
+counted_never M byte more blank c =
+    digit_not_blank byte (digit_first byte more c.digits c.rest c.parts c.some c.are) blank
 
 -- ---- where a time is read
 
@@ -100,9 +111,14 @@ gap_of text solid some = let p = passed text in go p.blanks p.are p.parts p.ends
     nothing_there [] solid ends = refl
     nothing_there (byte ∷ t) solid ends = absurd (true≢false (sym (ap not ends) ∙ solid))
 
-    go : (blanks : List ℕ) → AreBlank blanks → text ≡ blanks ++ behind_blanks text → EndsAt is_blank (behind_blanks text) → Gap text
-    go [] are parts ends = absurd (some (ap length (sym parts) ∙ nothing_there text solid (subst (EndsAt is_blank) (sym parts) ends)))
-    go (b ∷ blanks) are parts ends = record { blank = b; blanks = blanks; is = are.0; are = are.1; parts = parts; ends = ends }
+    go : (blanks : List ℕ) → AreBlank blanks → text ≡ blanks ++ behind_blanks text
+        → EndsAt is_blank (behind_blanks text) → Gap text
+    go [] are parts ends =
+        absurd (some
+        (ap length (sym parts)
+        ∙ nothing_there text solid (subst (EndsAt is_blank) (sym parts) ends)))
+    go (b ∷ blanks) are parts ends =
+        record { blank = b; blanks = blanks; is = are.0; are = are.1; parts = parts; ends = ends }
 
 module _ (K : List ℕ → ℕ → Type 0) where
   abbrev End : List ℕ → List ℕ → Type 0
@@ -119,18 +135,25 @@ module _ (K : List ℕ → ℕ → Type 0) where
   no_time_out text none (inl t) = t.1
   no_time_out text none (inr p) =
       let whole : text ++ [] ≡ text = append-nil text in
-      absurd (counted_none End (spaced_behind (Counted End) text [] (counted_never End) (all_blank text none) tt (subst (Spaced (Counted End)) (sym whole) (parted_spaced (Counted End) text p))))
+      absurd (counted_none End
+      (spaced_behind (Counted End) text [] (counted_never End) (all_blank text none) tt
+      (subst (Spaced (Counted End)) (sym whole) (parted_spaced (Counted End) text p))))
 
   -- a time
-  pub time_in : (text : List ℕ) → EndsAt is_solid text → (length (behind_blanks text) ≡ 0 → ⊥) → (prefix_len is_ascii_digit (behind_blanks text) ≡ 0 → ⊥)
-      → length (behind_blanks (drop (prefix_len is_ascii_digit (behind_blanks text)) (behind_blanks text))) ≡ 0
-      → K (take (prefix_len is_ascii_digit (behind_blanks text)) (behind_blanks text)) (length (behind_blanks text)) → Timed K text
+  pub time_in : (text : List ℕ) → EndsAt is_solid text → (length (behind_blanks text) ≡ 0 → ⊥)
+      → (prefix_len is_ascii_digit (behind_blanks text) ≡ 0 → ⊥)
+      → length
+      (behind_blanks (drop (prefix_len is_ascii_digit (behind_blanks text)) (behind_blanks text)))
+      ≡ 0
+      → K (take (prefix_len is_ascii_digit (behind_blanks text)) (behind_blanks text))
+      (length (behind_blanks text)) → Timed K text
   time_in text solid some digit none is =
       let gap = gap_of text solid some in
       let rest = behind_blanks text in
       let n = prefix_len is_ascii_digit rest in
       let whole : take n rest ++ drop n rest ≡ rest = take-append-drop n rest in
-      let len : length rest ≡ length (take n rest) + length (drop n rest) = sym (ap length whole) ∙ length-append (take n rest) (drop n rest) in
+      let len : length rest ≡ length (take n rest) + length (drop n rest) = sym (ap length whole)
+      ∙ length-append (take n rest) (drop n rest) in
       inr (record {
         blank = gap.blank;
         rest = gap.blanks ++ rest;
@@ -153,18 +176,26 @@ module _ (K : List ℕ → ℕ → Type 0) where
       })
 
   pub time_out : (text : List ℕ) → EndsAt is_solid text → (length (behind_blanks text) ≡ 0 → ⊥)
-      → Timed K text → K (take (prefix_len is_ascii_digit (behind_blanks text)) (behind_blanks text)) (length (behind_blanks text))
+      → Timed K text
+      → K (take (prefix_len is_ascii_digit (behind_blanks text)) (behind_blanks text))
+      (length (behind_blanks text))
   time_out text solid some (inl t) = absurd (some (ap length (blank_all text t.0)))
   time_out text solid some (inr p) =
       let gap = gap_of text solid some in
       let rest = behind_blanks text in
       let n = prefix_len is_ascii_digit rest in
       let whole : take n rest ++ drop n rest ≡ rest = take-append-drop n rest in
-      let spaced : Spaced (Counted End) ((gap.blank ∷ gap.blanks) ++ rest) = subst (Spaced (Counted End)) gap.parts (parted_spaced (Counted End) text p) in
-      let c : Counted End rest = spaced_behind (Counted End) (gap.blank ∷ gap.blanks) rest (counted_never End) (gap.is, gap.are) gap.ends spaced in
+      let spaced : Spaced (Counted End) ((gap.blank ∷ gap.blanks) ++ rest) =
+      subst (Spaced (Counted End)) gap.parts (parted_spaced (Counted End) text p) in
+      let c : Counted End rest =
+      spaced_behind (Counted End) (gap.blank ∷ gap.blanks) rest (counted_never End)
+      (gap.is, gap.are) gap.ends spaced in
       let d : Counted End (take n rest ++ drop n rest) = subst (Counted End) (sym whole) c in
-      let one = counted_is End (take n rest) rest (drop n rest) (front_passes is_ascii_digit rest) (ends_passing is_ascii_digit rest) end_blank d in
-      let len : length d.digits + length d.rest ≡ length rest = sym (length-append d.digits d.rest) ∙ ap length (sym d.parts) ∙ ap length whole in
+      let one =
+      counted_is End (take n rest) rest (drop n rest) (front_passes is_ascii_digit rest)
+      (ends_passing is_ascii_digit rest) end_blank d in
+      let len : length d.digits + length d.rest ≡ length rest = sym (length-append d.digits d.rest)
+      ∙ ap length (sym d.parts) ∙ ap length whole in
       subst (λ e. K e (length rest)) one.0 (subst (K d.digits) len d.then.1)
 
 -- ---- where none is read
@@ -191,32 +222,61 @@ tail_leads text gap = record {
 }
   where
     into : (more : List ℕ) → Last more → Tail (gap.blank ∷ (gap.blanks ++ more))
-    into more (inl none) = inl (gap.is, blank_both gap.blanks more gap.are (subst AreBlank (sym none) tt))
-    into more (inr c) = inr (record { blank = gap.blank; rest = gap.blanks ++ more; parts = refl; is = gap.is; then = record { blanks = gap.blanks; rest = more; parts = refl; are = gap.are; then = c } })
+    into more (inl none) =
+        inl (gap.is, blank_both gap.blanks more gap.are (subst AreBlank (sym none) tt))
+    into more (inr c) =
+        inr (record {
+          blank = gap.blank;
+          rest = gap.blanks ++ more;
+          parts = refl;
+          is = gap.is;
+          then = record { blanks = gap.blanks; rest = more; parts = refl; are = gap.are; then = c };
+        })
 
-    out : (more : List ℕ) → EndsAt is_blank more → Tail ((gap.blank ∷ gap.blanks) ++ more) → Last more
-    out more ends (inl are) = inl (not_blank_none more ends (blank_append (gap.blank ∷ gap.blanks) more are))
+    out : (more : List ℕ) → EndsAt is_blank more → Tail ((gap.blank ∷ gap.blanks) ++ more)
+        → Last more
+    out more ends (inl are) =
+        inl (not_blank_none more ends (blank_append (gap.blank ∷ gap.blanks) more are))
     out more ends (inr p) =
-        inr (spaced_behind (Counted Blanks) (gap.blank ∷ gap.blanks) more (counted_never Blanks) (gap.is, gap.are) ends (parted_spaced (Counted Blanks) ((gap.blank ∷ gap.blanks) ++ more) p))
+        inr (spaced_behind (Counted Blanks) (gap.blank ∷ gap.blanks) more (counted_never Blanks)
+        (gap.is, gap.are) ends
+        (parted_spaced (Counted Blanks) ((gap.blank ∷ gap.blanks) ++ more) p))
 
-last_stops : (text : List ℕ) → (length text ≡ 0 → ⊥) → prefix_len is_ascii_digit text ≡ 0 → Stops Last text (length text)
-last_stops text some none = stops_here Last text [] (inl refl) (λ byte rest other starts l. go byte rest other starts l) (λ empty l. some (ap length empty))
+last_stops : (text : List ℕ) → (length text ≡ 0 → ⊥) → prefix_len is_ascii_digit text ≡ 0
+    → Stops Last text (length text)
+last_stops text some none =
+    stops_here Last text [] (inl refl) (λ byte rest other starts l. go byte rest other starts l)
+    (λ empty l. some (ap length empty))
   where
     go : (byte : ℕ) (rest other : List ℕ) → text ≡ byte ∷ rest → Last (byte ∷ other) → ⊥
     go byte rest other starts (inl is) = cc (is)
     go byte rest other starts (inr c) =
-        digit_count byte rest (digit_first byte other c.digits c.rest c.parts c.some c.are) (ap (prefix_len is_ascii_digit) (sym starts) ∙ none)
+        digit_count byte rest (digit_first byte other c.digits c.rest c.parts c.some c.are)
+        (ap (prefix_len is_ascii_digit) (sym starts) ∙ none)
 
-digits_lead : (text : List ℕ) → (prefix_len is_ascii_digit text ≡ 0 → ⊥) → Leads Last AreBlank text (drop (prefix_len is_ascii_digit text) text)
+digits_lead : (text : List ℕ) → (prefix_len is_ascii_digit text ≡ 0 → ⊥)
+    → Leads Last AreBlank text (drop (prefix_len is_ascii_digit text) text)
 digits_lead text digit = record {
   front = take (prefix_len is_ascii_digit text) text;
   parts = sym (take-append-drop (prefix_len is_ascii_digit text) text);
-  into = λ more are. inr (record { digits = take (prefix_len is_ascii_digit text) text; rest = more; parts = refl; some = digit_some text digit; are = front_passes is_ascii_digit text; then = are });
-  out = λ more same l. out (take (prefix_len is_ascii_digit text) text) more (digit_some text digit) (front_passes is_ascii_digit text)
-      (ends_same is_ascii_digit (drop (prefix_len is_ascii_digit text) text) more same (ends_passing is_ascii_digit text)) l;
+  into = λ more are.
+      inr (record {
+        digits = take (prefix_len is_ascii_digit text) text;
+        rest = more;
+        parts = refl;
+        some = digit_some text digit;
+        are = front_passes is_ascii_digit text;
+        then = are;
+      });
+  out = λ more same l.
+      out (take (prefix_len is_ascii_digit text) text) more (digit_some text digit)
+      (front_passes is_ascii_digit text)
+      (ends_same is_ascii_digit (drop (prefix_len is_ascii_digit text) text) more same
+      (ends_passing is_ascii_digit text)) l;
 }
   where
-    out : (digits more : List ℕ) → digits ≢ [] → list_all is_ascii_digit digits ≡ true → EndsAt is_ascii_digit more → Last (digits ++ more) → AreBlank more
+    out : (digits more : List ℕ) → digits ≢ [] → list_all is_ascii_digit digits ≡ true
+        → EndsAt is_ascii_digit more → Last (digits ++ more) → AreBlank more
     out [] more some are ends l = absurd (some refl)
     out (d ∷ digits) more some are ends (inl is) = cc (is)
     out (d ∷ digits) more some are ends (inr c) =
@@ -226,15 +286,26 @@ digits_lead text digit = record {
 blanks_lead : (text : List ℕ) → Leads AreBlank AreBlank text (behind_blanks text)
 blanks_lead text =
     let p = passed text in
-    record { front = p.blanks; parts = p.parts; into = λ more are. blank_both p.blanks more p.are are; out = λ more same are. blank_append p.blanks more are }
+    record {
+      front = p.blanks;
+      parts = p.parts;
+      into = λ more are. blank_both p.blanks more p.are are;
+      out =
+          λ more same are. blank_append p.blanks more are;
+    }
 
-blanks_stop : (text : List ℕ) → EndsAt is_blank text → (length text ≡ 0 → ⊥) → Stops AreBlank text (length text)
-blanks_stop text ends some = stops_here AreBlank text [] tt (λ byte rest other starts are. go byte rest starts are.0) (λ empty are. some (ap length empty))
+blanks_stop : (text : List ℕ) → EndsAt is_blank text → (length text ≡ 0 → ⊥)
+    → Stops AreBlank text (length text)
+blanks_stop text ends some =
+    stops_here AreBlank text [] tt (λ byte rest other starts are. go byte rest starts are.0)
+    (λ empty are. some (ap length empty))
   where
     go : (byte : ℕ) (rest : List ℕ) → text ≡ byte ∷ rest → is_blank byte ≡ true → ⊥
-    go byte rest starts blank = let e : EndsAt is_blank (byte ∷ rest) = subst (EndsAt is_blank) starts ends in true≢false (sym blank ∙ e)
+    go byte rest starts blank = let e : EndsAt is_blank (byte ∷ rest) =
+        subst (EndsAt is_blank) starts ends in true≢false (sym blank ∙ e)
 
-module _ (L : List ℕ → List ℕ → ℕ → Type 0) (goes : (text digits : List ℕ) (left : ℕ) → L text digits left) where
+module _ (L : List ℕ → List ℕ → ℕ → Type 0)
+    (goes : (text digits : List ℕ) (left : ℕ) → L text digits left) where
   abbrev pub TimedHere : List ℕ → Type 0
   TimedHere text = Timed (L text) text
 
@@ -256,7 +327,10 @@ module _ (L : List ℕ → List ℕ → ℕ → Type 0) (goes : (text digits : L
         parts = p.then.then.parts;
         some = p.then.then.some;
         are = p.then.then.are;
-        then = (p.then.then.then, goes text p.then.then.digits (length p.then.then.digits + length p.then.then.rest));
+        then = (
+          p.then.then.then,
+          goes text p.then.then.digits (length p.then.then.digits + length p.then.then.rest),
+        );
       };
     };
   })
@@ -287,77 +361,138 @@ module _ (L : List ℕ → List ℕ → ℕ → Type 0) (goes : (text digits : L
   timed_leads : (text : List ℕ) → Leads TimedHere Tail text text
   timed_leads text = leads_all (λ more t. timed_in more t) (λ more same t. timed_out more t)
 
-  pub time_stops : (text : List ℕ) (left : ℕ) → EndsAt is_solid text → time_reading text ≡ Err left → Stops TimedHere text left
+  pub time_stops : (text : List ℕ) (left : ℕ) → EndsAt is_solid text → time_reading text ≡ Err left
+      → Stops TimedHere text left
   unfolding time_reading
   time_stops text left solid is = first (length (behind_blanks text) == 0) refl is
     where
-      third : (b : Bool) → (length (behind_blanks text) ≡ 0 → ⊥) → (prefix_len is_ascii_digit (behind_blanks text) ≡ 0 → ⊥)
-          → (length (behind_blanks (drop (prefix_len is_ascii_digit (behind_blanks text)) (behind_blanks text))) == 0) ≡ b
-          → cond {A = Result (List ℕ × ℕ) ℕ} b (Ok (take (prefix_len is_ascii_digit (behind_blanks text)) (behind_blanks text), length (behind_blanks text)))
-          (Err (length (behind_blanks (drop (prefix_len is_ascii_digit (behind_blanks text)) (behind_blanks text))))) ≡ Err left
+      third : (b : Bool) → (length (behind_blanks text) ≡ 0 → ⊥)
+          → (prefix_len is_ascii_digit (behind_blanks text) ≡ 0 → ⊥)
+          → (length
+          (behind_blanks
+          (drop (prefix_len is_ascii_digit (behind_blanks text)) (behind_blanks text))) == 0) ≡ b
+          → cond {A = Result (List ℕ × ℕ) ℕ} b
+          (Ok (
+            take (prefix_len is_ascii_digit (behind_blanks text)) (behind_blanks text),
+            length (behind_blanks text),
+          ))
+          (Err (length
+          (behind_blanks
+          (drop (prefix_len is_ascii_digit (behind_blanks text)) (behind_blanks text)))))
+          ≡ Err left
           → Stops TimedHere text left
       third true some digit test is = cc (is)
       third false some digit test is =
           let rest = behind_blanks text in
           let behind = drop (prefix_len is_ascii_digit rest) rest in
-          let some_end : length (behind_blanks behind) ≡ 0 → ⊥ = λ none. true≢false (sym (ap (λ n. n == 0) none) ∙ test) in
+          let some_end : length (behind_blanks behind) ≡ 0 → ⊥ =
+          λ none. true≢false (sym (ap (λ n. n == 0) none) ∙ test) in
           let same : length (behind_blanks behind) ≡ left = cc (is) in
-          leads_stops (leads_on (timed_leads text) (leads_on (tail_leads text (gap_of text solid some)) (leads_on (digits_lead rest digit) (blanks_lead behind)))) left
-          (subst (Stops AreBlank (behind_blanks behind)) same (blanks_stop (behind_blanks behind) (passed behind).ends some_end))
+          leads_stops
+          (leads_on (timed_leads text)
+          (leads_on (tail_leads text (gap_of text solid some))
+          (leads_on (digits_lead rest digit) (blanks_lead behind)))) left
+          (subst (Stops AreBlank (behind_blanks behind)) same
+          (blanks_stop (behind_blanks behind) (passed behind).ends some_end))
 
-      second : (b : Bool) → (length (behind_blanks text) ≡ 0 → ⊥) → (prefix_len is_ascii_digit (behind_blanks text) == 0) ≡ b
-          → cond {A = Result (List ℕ × ℕ) ℕ} b (Err (length (behind_blanks text))) (until_end (behind_blanks text) (behind_blanks (drop (prefix_len is_ascii_digit (behind_blanks text)) (behind_blanks text)))) ≡ Err left
+      second : (b : Bool) → (length (behind_blanks text) ≡ 0 → ⊥)
+          → (prefix_len is_ascii_digit (behind_blanks text) == 0) ≡ b
+          → cond {A = Result (List ℕ × ℕ) ℕ} b (Err (length (behind_blanks text)))
+          (until_end (behind_blanks text)
+          (behind_blanks
+          (drop (prefix_len is_ascii_digit (behind_blanks text)) (behind_blanks text)))) ≡ Err left
           → Stops TimedHere text left
       second true some test is =
           let same : length (behind_blanks text) ≡ left = cc (is) in
           leads_stops (leads_on (timed_leads text) (tail_leads text (gap_of text solid some))) left
-          (subst (Stops Last (behind_blanks text)) same (last_stops (behind_blanks text) some (eqb-true (prefix_len is_ascii_digit (behind_blanks text)) 0 test)))
+          (subst (Stops Last (behind_blanks text)) same
+          (last_stops (behind_blanks text) some
+          (eqb-true (prefix_len is_ascii_digit (behind_blanks text)) 0 test)))
       second false some test is =
-          third (length (behind_blanks (drop (prefix_len is_ascii_digit (behind_blanks text)) (behind_blanks text))) == 0) some (λ none. true≢false (sym (ap (λ n. n == 0) none) ∙ test)) refl is
+          third (length
+          (behind_blanks
+          (drop (prefix_len is_ascii_digit (behind_blanks text)) (behind_blanks text))) == 0)
+          some (λ none. true≢false (sym (ap (λ n. n == 0) none) ∙ test)) refl is
 
-      first : (b : Bool) → (length (behind_blanks text) == 0) ≡ b → cond {A = Result (List ℕ × ℕ) ℕ} b (Ok ([], 0)) (digits_reading (behind_blanks text)) ≡ Err left → Stops TimedHere text left
+      first : (b : Bool) → (length (behind_blanks text) == 0) ≡ b
+          → cond {A = Result (List ℕ × ℕ) ℕ} b (Ok ([], 0)) (digits_reading (behind_blanks text))
+          ≡ Err left → Stops TimedHere text left
       first true test is = cc (is)
-      first false test is = second (prefix_len is_ascii_digit (behind_blanks text) == 0) (λ none. true≢false (sym (ap (λ n. n == 0) none) ∙ test)) refl is
+      first false test is =
+          second (prefix_len is_ascii_digit (behind_blanks text) == 0)
+          (λ none. true≢false (sym (ap (λ n. n == 0) none) ∙ test)) refl is
 
 -- what a time says that is read
 pub record TimeRead (K : List ℕ → ℕ → Type 0) (text digits : List ℕ) (left : ℕ) : Type 0 where
   pub into : K digits left → Timed K text
   pub out : Timed K text → K digits left
 
-pub time_reads : (K : List ℕ → ℕ → Type 0) (text : List ℕ) (read : List ℕ × ℕ) → EndsAt is_solid text → time_reading text ≡ Ok read → TimeRead K text read.0 read.1
+pub time_reads : (K : List ℕ → ℕ → Type 0) (text : List ℕ) (read : List ℕ × ℕ)
+    → EndsAt is_solid text → time_reading text ≡ Ok read → TimeRead K text read.0 read.1
 unfolding time_reading
 time_reads K text read solid is = first (length (behind_blanks text) == 0) refl is
   where
-    third : (b : Bool) → (length (behind_blanks text) ≡ 0 → ⊥) → (prefix_len is_ascii_digit (behind_blanks text) ≡ 0 → ⊥)
-        → (length (behind_blanks (drop (prefix_len is_ascii_digit (behind_blanks text)) (behind_blanks text))) == 0) ≡ b
-        → cond {A = Result (List ℕ × ℕ) ℕ} b (Ok (take (prefix_len is_ascii_digit (behind_blanks text)) (behind_blanks text), length (behind_blanks text)))
-        (Err (length (behind_blanks (drop (prefix_len is_ascii_digit (behind_blanks text)) (behind_blanks text))))) ≡ Ok read
+    third : (b : Bool) → (length (behind_blanks text) ≡ 0 → ⊥)
+        → (prefix_len is_ascii_digit (behind_blanks text) ≡ 0 → ⊥)
+        → (length
+        (behind_blanks (drop (prefix_len is_ascii_digit (behind_blanks text)) (behind_blanks text)))
+        == 0) ≡ b
+        → cond {A = Result (List ℕ × ℕ) ℕ} b
+        (Ok (
+          take (prefix_len is_ascii_digit (behind_blanks text)) (behind_blanks text),
+          length (behind_blanks text),
+        ))
+        (Err (length
+        (behind_blanks
+        (drop (prefix_len is_ascii_digit (behind_blanks text)) (behind_blanks text)))))
+        ≡ Ok read
         → TimeRead K text read.0 read.1
     third true some digit test is =
-        let same : ◌≡◌ {A = List ℕ × ℕ} (take (prefix_len is_ascii_digit (behind_blanks text)) (behind_blanks text), length (behind_blanks text)) read = cc (is) in
+        let same :
+        ◌≡◌ {A = List ℕ × ℕ} (
+          take (prefix_len is_ascii_digit (behind_blanks text)) (behind_blanks text),
+          length (behind_blanks text),
+        ) read = cc (is) in
         subst (λ r. TimeRead K text r.0 r.1) same (record {
-          into = time_in K text solid some digit (eqb-true (length (behind_blanks (drop (prefix_len is_ascii_digit (behind_blanks text)) (behind_blanks text)))) 0 test);
+          into = time_in K text solid some digit
+              (eqb-true
+              (length (behind_blanks
+              (drop (prefix_len is_ascii_digit (behind_blanks text)) (behind_blanks text)))) 0
+              test);
           out = time_out K text solid some;
         })
     third false some digit test is = cc (is)
 
-    second : (b : Bool) → (length (behind_blanks text) ≡ 0 → ⊥) → (prefix_len is_ascii_digit (behind_blanks text) == 0) ≡ b
-        → cond {A = Result (List ℕ × ℕ) ℕ} b (Err (length (behind_blanks text))) (until_end (behind_blanks text) (behind_blanks (drop (prefix_len is_ascii_digit (behind_blanks text)) (behind_blanks text)))) ≡ Ok read
+    second : (b : Bool) → (length (behind_blanks text) ≡ 0 → ⊥)
+        → (prefix_len is_ascii_digit (behind_blanks text) == 0) ≡ b
+        → cond {A = Result (List ℕ × ℕ) ℕ} b (Err (length (behind_blanks text)))
+        (until_end (behind_blanks text)
+        (behind_blanks
+        (drop (prefix_len is_ascii_digit (behind_blanks text)) (behind_blanks text)))) ≡ Ok read
         → TimeRead K text read.0 read.1
     second true some test is = cc (is)
     second false some test is =
-        third (length (behind_blanks (drop (prefix_len is_ascii_digit (behind_blanks text)) (behind_blanks text))) == 0) some (λ none. true≢false (sym (ap (λ n. n == 0) none) ∙ test)) refl is
+        third (length
+        (behind_blanks
+        (drop (prefix_len is_ascii_digit (behind_blanks text)) (behind_blanks text))) == 0) some
+        (λ none. true≢false (sym (ap (λ n. n == 0) none) ∙ test)) refl is
 
-    first : (b : Bool) → (length (behind_blanks text) == 0) ≡ b → cond {A = Result (List ℕ × ℕ) ℕ} b (Ok ([], 0)) (digits_reading (behind_blanks text)) ≡ Ok read → TimeRead K text read.0 read.1
+    first : (b : Bool) → (length (behind_blanks text) == 0) ≡ b
+        → cond {A = Result (List ℕ × ℕ) ℕ} b (Ok ([], 0)) (digits_reading (behind_blanks text))
+        ≡ Ok read → TimeRead K text read.0 read.1
     first true test is =
         let same : ◌≡◌ {A = List ℕ × ℕ} ([], 0) read = cc (is) in
         subst (λ r. TimeRead K text r.0 r.1) same (record {
           into = no_time_in K text (eqb-true (length (behind_blanks text)) 0 test);
           out = no_time_out K text (eqb-true (length (behind_blanks text)) 0 test);
         })
-    first false test is = second (prefix_len is_ascii_digit (behind_blanks text) == 0) (λ none. true≢false (sym (ap (λ n. n == 0) none) ∙ test)) refl is
+    first false test is =
+        second (prefix_len is_ascii_digit (behind_blanks text) == 0)
+        (λ none. true≢false (sym (ap (λ n. n == 0) none) ∙ test)) refl is
 
 -- what stands after a value never begins with another byte than a blank
-pub timed_blank : (K : List ℕ → ℕ → Type 0) (byte : ℕ) (more : List ℕ) → is_solid byte ≡ true → Timed K (byte ∷ more) → ⊥
+pub timed_blank : (K : List ℕ → ℕ → Type 0) (byte : ℕ) (more : List ℕ) → is_solid byte ≡ true
+    → Timed K (byte ∷ more) → ⊥
 timed_blank K byte more solid (inl t) = true≢false (sym solid ∙ ap not t.0.0)
-timed_blank K byte more solid (inr p) = let same : byte ≡ p.blank = cc (p.parts) in true≢false (sym solid ∙ ap not (ap is_blank same ∙ p.is))
+timed_blank K byte more solid (inr p) = let same : byte ≡ p.blank =
+    cc (p.parts) in true≢false (sym solid ∙ ap not (ap is_blank same ∙ p.is))

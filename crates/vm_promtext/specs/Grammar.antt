@@ -78,7 +78,8 @@ Closed L (suc more) before = Spaced (λ text.
 abbrev pub WithLabels : (List Pair → List ℕ → Type 0) → List Pair → List ℕ → Type 0
 WithLabels L before text =
     Parted (L before) text
-    ⊎ Spaced (Marked 123 (λ rest. (pairs : ℕ) × Closed (λ all. Spaced (L all)) pairs before rest)) text
+    ⊎ Spaced (Marked 123 (λ rest. (pairs : ℕ) × Closed (λ all. Spaced (L all)) pairs before rest))
+    text
 
 -- the text of a sample or of a value that is no number
 pub record Valued (L : List ℕ → List ℕ → Type 0) (text : List ℕ) : Type 0 where
@@ -122,7 +123,8 @@ name_pair name = record { name = codes "__name__"; value = name }
 
 -- a line with a row of whose parts P holds
 abbrev pub RowText : (Written → Type 0) → List ℕ → Type 0
-RowText P = Spaced (Named (λ name. WithLabels (λ pairs. Valued (λ value behind. Timed (λ digits left.
+RowText P =
+    Spaced (Named (λ name. WithLabels (λ pairs. Valued (λ value behind. Timed (λ digits left.
     P (record {
       pairs = pairs;
       value = value;

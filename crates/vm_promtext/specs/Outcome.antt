@@ -33,7 +33,8 @@ kept (Err fault) = None
 abbrev pub with_labels : SampleText → ℕ → Option (List Pair) → Line
 with_labels value time None = Skipped 0
 with_labels values.NoNumber time (Some labels) = NoNumber
-with_labels (Value number) time (Some labels) = Row (record { labels = labels; time = time; value = number })
+with_labels (Value number) time (Some labels) =
+    Row (record { labels = labels; time = time; value = number })
 
 -- a line whose value is known, and whose time begins at a place
 abbrev pub with_time : SampleText → ℕ → Option ℕ → Option (List Pair) → Line

@@ -58,7 +58,8 @@ fn push_escape<'a>(text: &mut String, escaped: &'a str) -> Result<&'a str, Alloc
 /// What stands before the first backslash and after it.
 fn at_escape(text: &str) -> Option<(&str, &str)>
     ensures plain { IfNone result (decoded false text.now ≡ text.now) }
-    ensures escaped { IfSome result (λ p. decoded false text.now ≡ p.0.now ++ decoded true p.1.now) }
+    ensures escaped { IfSome result
+        (λ p. decoded false text.now ≡ p.0.now ++ decoded true p.1.now) }
     ensures shorter { IfSome result (λ p. length p.1.now < length text.now) }
 {
     match text.split_once('\\') {

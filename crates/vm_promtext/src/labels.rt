@@ -68,7 +68,8 @@ fn read_braces<'a>(alloc: Global, pairs: &mut List<Pair>, text: &'a [u8]) -> Res
 /// Reads the closing brace, or adds one pair and reads what ends it.
 #[tactic(auto, unfolding(crate::specs::Reading::turn_reading))]
 fn next_pair<'a>(alloc: Global, pairs: &mut List<Pair>, text: &'a [u8]) -> Result<Turn<'a>, Stop>
-    ensures { Gives (λ turn. record { pairs = pairs.new; closed = turn.closed; rest = turn.rest.now })
+    ensures { Gives
+        (λ turn. record { pairs = pairs.new; closed = turn.closed; rest = turn.rest.now })
         result (turn_reading pairs.old text.now) }
 {
     let text = behind_blanks(text);
@@ -91,7 +92,8 @@ fn next_pair<'a>(alloc: Global, pairs: &mut List<Pair>, text: &'a [u8]) -> Resul
 fn add_pair(alloc: Global, pairs: &mut List<Pair>, pair: &Spelled<'_>) -> Result<(), AllocError>
     requires { is_name pair.now.name.now ≡ true }
     ensures { OnOk result (pairs.new
-        ≡ pairs.old ++ record { name = pair.now.name.now; value = unescaped pair.now.raw.now } ∷ []) }
+        ≡ pairs.old
+        ++ record { name = pair.now.name.now; value = unescaped pair.now.raw.now } ∷ []) }
 {
     let name = name_text(alloc, pair.name)?;
     let value = unescaped(alloc, pair.raw)?;
@@ -113,7 +115,8 @@ pub fn name_text(alloc: Global, name: &[u8]) -> Result<Text, AllocError>
 /// The parts of the pair at the front of a text.
 #[tactic(auto, unfolding(crate::specs::Reading::pair_reading))]
 fn spelled_pair(text: &[u8]) -> Result<Spelled<'_>, Wrong>
-    ensures value { seen (λ p. record { name = p.name.now; raw = p.raw.now; rest = p.rest.now }) result
+    ensures value { seen (λ p. record { name = p.name.now; raw = p.raw.now; rest = p.rest.now })
+        result
         ≡ pair_reading text.now }
     ensures named { IfOk result (λ p. is_name p.name.now ≡ true) }
 {

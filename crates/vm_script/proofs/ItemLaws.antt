@@ -16,20 +16,24 @@ use Rattle.vm_script.specs.Expression.{is_quote, items_of, items_behind, item_of
 
 -- a text with a quote is cut at the first one
 pub cut_first : (text : List ℕ) → position_or_len is_quote text < length text
-    → slice_split is_quote text ≡ before_first is_quote text ∷ slice_split is_quote (after_first is_quote text)
+    → slice_split is_quote text ≡ before_first is_quote text
+    ∷ slice_split is_quote (after_first is_quote text)
 cut_first text within = slice_split_first is_quote text 0 within
 
-quote_here : (char : ℕ) (more : List ℕ) → position_or_len is_quote (char ∷ more) ≡ length (char ∷ more)
+quote_here : (char : ℕ) (more : List ℕ)
+    → position_or_len is_quote (char ∷ more) ≡ length (char ∷ more)
     → is_quote char ≡ true → ⊥
 quote_here char more whole is =
     let none : position_or_len is_quote (char ∷ more) ≡ 0 = rw is refl in
     omega (arith, sym none ∙ whole)
 
-quote_later : (char : ℕ) (more : List ℕ) → position_or_len is_quote (char ∷ more) ≡ length (char ∷ more)
+quote_later : (char : ℕ) (more : List ℕ)
+    → position_or_len is_quote (char ∷ more) ≡ length (char ∷ more)
     → is_quote char ≡ false
     → position_or_len is_quote more ≡ length more
 quote_later char more whole is =
-    let next : position_or_len is_quote (char ∷ more) ≡ 1 + position_or_len is_quote more = rw is refl in
+    let next : position_or_len is_quote (char ∷ more) ≡ 1 + position_or_len is_quote more =
+    rw is refl in
     omega (arith, sym next ∙ whole)
 
 -- a text without one is not cut
@@ -37,14 +41,20 @@ pub cut_none : (text : List ℕ) → position_or_len is_quote text ≡ length te
     → slice_split is_quote text ≡ text ∷ []
 cut_none [] whole = refl
 cut_none (char ∷ more) whole =
-    elim (is_quote char) as (λ b. is_quote char ≡ b → slice_split is_quote (char ∷ more) ≡ (char ∷ more) ∷ []) [
+    elim (is_quote char) as (λ b. is_quote char ≡ b
+    → slice_split is_quote (char ∷ more) ≡ (char ∷ more) ∷ []) [
       | true ↦ λ is. absurd (quote_here char more whole is)
-      | false ↦ λ is. rw (slice_split-cons_no is_quote char more is, cut_none more (quote_later char more whole is)) refl
+      | false ↦
+          λ is. rw (
+            slice_split-cons_no is_quote char more is,
+            cut_none more (quote_later char more whole is),
+          ) refl
     ] refl
 
 -- an item that is read is put before the items after it
 pub item_first : (before : List Filter) (item : Filter) (read : Option (List Filter))
-    → with_front (before ++ item ∷ []) read ≡ with_front before (option_and_then (λ items. Some (item ∷ items)) read)
+    → with_front (before ++ item ∷ []) read
+    ≡ with_front before (option_and_then (λ items. Some (item ∷ items)) read)
 item_first before item None = refl
 item_first before item (Some items) = ap Some (append_assoc before (item ∷ []) items)
 
@@ -63,7 +73,8 @@ pub pushed : (before after : List Filter) (item : Filter) (key value text behind
     → item_of key value ≡ Some item → after ≡ before ++ item ∷ []
     → with_front after (items_behind rest) ≡ with_front before (items_behind (44 ∷ text))
 pushed before after item key value text behind rest first second is put =
-    rw (put, items_with key value text behind rest item first second is) (item_first before item (items_behind rest))
+    rw (put, items_with key value text behind rest item first second is)
+    (item_first before item (items_behind rest))
 
 name_byte_ascii : (char : ℕ) → is_name_byte char ≡ true → char < 128
 name_byte_ascii char is = grind (arith, nat_tests)
@@ -78,9 +89,13 @@ boundary_at text (suc at) utf8 within ascii =
 -- a text may be cut after a name at its front
 pub name_boundary : (text : List ℕ) → IsUtf8 text → IsCharBoundary text (name_len text)
 name_boundary text utf8 =
-    elim (begins_name (get_or text 0 0)) as (λ b. IsCharBoundary text (if b then prefix_len is_name_byte text else 0)) [
-      | true ↦ boundary_at text (prefix_len is_name_byte text) utf8 (prefix_len-le-length is_name_byte text)
-          (λ k below. name_byte_ascii (get_or text k 0) (prefix_len_passes is_name_byte text k 0 below))
+    elim (begins_name (get_or text 0 0)) as (λ b.
+    IsCharBoundary text (if b then prefix_len is_name_byte text else 0)) [
+      | true ↦
+          boundary_at text (prefix_len is_name_byte text) utf8
+          (prefix_len-le-length is_name_byte text)
+          (λ k below.
+          name_byte_ascii (get_or text k 0) (prefix_len_passes is_name_byte text k 0 below))
       | false ↦ IsCharBoundary-start text utf8
     ]
 
@@ -116,24 +131,37 @@ quote_first [] = refl
 quote_first (piece ∷ more) = refl
 
 -- a text that goes on is not the brace alone
-goes_on : (char : ℕ) (front back : List ℕ) → bytes_eq (char ∷ (front ++ (34 ∷ back))) (codes "}") ≡ false
+goes_on : (char : ℕ) (front back : List ℕ)
+    → bytes_eq (char ∷ (front ++ (34 ∷ back))) (codes "}") ≡ false
 goes_on char [] back = grind (arith, nat_tests)
 goes_on char (next ∷ more) back = grind (arith, nat_tests)
 
 -- nor does one begin with anything but a comma
 last_piece : (char : ℕ) (more : List ℕ) (pieces : List (List ℕ)) → join_with_byte 34 pieces ≡ more
     → 0 < length pieces → (char == 44) ≡ false
-    → items_of (onto_first char pieces) ≡ (if bytes_eq (char ∷ more) (codes "}") then Some [] else None)
+    → items_of (onto_first char pieces)
+    ≡ (if bytes_eq (char ∷ more) (codes "}") then Some [] else None)
 last_piece char more [] joined some comma = absurd (omega arith)
 last_piece char more (piece ∷ []) joined some comma = rw joined refl
-last_piece char more (piece ∷ value ∷ rest) joined some comma = rw (← joined, comma, goes_on char piece (join_with_byte 34 (value ∷ rest))) refl
+last_piece char more (piece ∷ value ∷ rest) joined some comma =
+    rw (← joined, comma, goes_on char piece (join_with_byte 34 (value ∷ rest))) refl
 
 -- what stands after the last item is the brace alone
 pub items_end : (text : List ℕ) → behind 44 text ≡ None
     → items_behind text ≡ (if bytes_eq text (codes "}") then Some [] else None)
 items_end [] none = refl
 items_end (char ∷ more) none =
-    elim (is_quote char) as (λ b. is_quote char ≡ b → items_behind (char ∷ more) ≡ (if bytes_eq (char ∷ more) (codes "}") then Some [] else None)) [
-      | true ↦ λ is. rw (slice_split-cons_yes is_quote char more is, quote_first (slice_split is_quote more), eqb-true char 34 is) refl
-      | false ↦ λ is. rw (slice_split-cons_no is_quote char more is) (last_piece char more (slice_split is_quote more) (join_with_byte-slice_split 34 more) (omega (arith, length-slice_split is_quote more)) (not_comma char more none))
+    elim (is_quote char) as (λ b. is_quote char ≡ b
+    → items_behind (char ∷ more)
+    ≡ (if bytes_eq (char ∷ more) (codes "}") then Some [] else None)) [
+      | true ↦
+          λ is. rw (
+            slice_split-cons_yes is_quote char more is,
+            quote_first (slice_split is_quote more),
+            eqb-true char 34 is,
+          ) refl
+      | false ↦
+          λ is. rw (slice_split-cons_no is_quote char more is)
+          (last_piece char more (slice_split is_quote more) (join_with_byte-slice_split 34 more)
+          (omega (arith, length-slice_split is_quote more)) (not_comma char more none))
     ] refl

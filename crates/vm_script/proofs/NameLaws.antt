@@ -28,15 +28,18 @@ name_len-append [] behind named stops = grind (arith, nat_tests)
 name_len-append (char ∷ more) behind named stops =
     let begins : begins_name char ≡ true = grind arith in
     let all : list_all is_name_byte (char ∷ more) ≡ true = grind arith in
-    name_len-begun ((char ∷ more) ++ behind) begins ∙ prefix_all is_name_byte (char ∷ more) behind all stops
+    name_len-begun ((char ∷ more) ++ behind) begins
+    ∙ prefix_all is_name_byte (char ∷ more) behind all stops
 
 pub front_name-append : (name behind : List ℕ) → is_name name ≡ true
     → is_name_byte (get_or behind 0 0) ≡ false → front_name (name ++ behind) ≡ name
-front_name-append name behind named stops = rw (name_len-append name behind named stops) (take-append_seam name behind)
+front_name-append name behind named stops =
+    rw (name_len-append name behind named stops) (take-append_seam name behind)
 
 pub behind_name-append : (name behind : List ℕ) → is_name name ≡ true
     → is_name_byte (get_or behind 0 0) ≡ false → behind_name (name ++ behind) ≡ behind
-behind_name-append name behind named stops = rw (name_len-append name behind named stops) (drop-append_seam name behind)
+behind_name-append name behind named stops =
+    rw (name_len-append name behind named stops) (drop-append_seam name behind)
 
 -- a name isn't empty
 pub name_some : (name : List ℕ) → is_name name ≡ true → 0 < length name
@@ -68,17 +71,24 @@ first_kept (suc n) (char ∷ more) some = refl
 -- of a text that begins as a name does, or has nothing at its front
 front_passes : (begins passes : ℕ → Bool) (text : List ℕ)
     → 0 < length (take (if begins (get_or text 0 0) then prefix_len passes text else 0) text)
-    → (begins (get_or (take (if begins (get_or text 0 0) then prefix_len passes text else 0) text) 0 0)
-    && list_all passes (take (if begins (get_or text 0 0) then prefix_len passes text else 0) text)) ≡ true
+    → (begins
+    (get_or (take (if begins (get_or text 0 0) then prefix_len passes text else 0) text) 0 0)
+    && list_all passes (take (if begins (get_or text 0 0) then prefix_len passes text else 0) text))
+    ≡ true
 front_passes begins passes text =
-    elim (begins (get_or text 0 0)) as (λ b. begins (get_or text 0 0) ≡ b → 0 < length (take (if b then prefix_len passes text else 0) text)
-    → (begins (get_or (take (if b then prefix_len passes text else 0) text) 0 0) && list_all passes (take (if b then prefix_len passes text else 0) text)) ≡ true) [
-      | true ↦ λ is some. rw (first_kept (prefix_len passes text) text some, is, prefix_passes passes text) refl
+    elim (begins (get_or text 0 0)) as (λ b. begins (get_or text 0 0) ≡ b
+    → 0 < length (take (if b then prefix_len passes text else 0) text)
+    → (begins (get_or (take (if b then prefix_len passes text else 0) text) 0 0)
+    && list_all passes (take (if b then prefix_len passes text else 0) text)) ≡ true) [
+      | true ↦
+          λ is some.
+          rw (first_kept (prefix_len passes text) text some, is, prefix_passes passes text) refl
       | false ↦ λ is some. absurd (omega arith)
     ] refl
 
 -- what stands at the front is a name, where it isn't empty
-pub front_is_name : (text : List ℕ) → 0 < length (front_name text) → is_name (front_name text) ≡ true
+pub front_is_name : (text : List ℕ) → 0 < length (front_name text)
+    → is_name (front_name text) ≡ true
 front_is_name text = front_passes begins_name is_name_byte text
 
 name_byte_no_quote : (char : ℕ) → is_name_byte char ≡ true → is_quote char ≡ false

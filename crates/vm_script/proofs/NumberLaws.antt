@@ -23,13 +23,16 @@ large false n h = refl
 large true n h = grind arith
 
 number_after-large : (read : ℕ) (digits : List ℕ) → 2 ^ 64 ≤ read → number_after read digits ≡ None
-number_after-large read digits h = large (list_all is_ascii_digit digits) (digits_value_after 10 read digits) (omega (arith, grows read digits))
+number_after-large read digits h =
+    large (list_all is_ascii_digit digits) (digits_value_after 10 read digits)
+    (omega (arith, grows read digits))
 
 -- where no digit can follow, nothing is read
 number_after-stuck : (read digit : ℕ) (more : List ℕ) → with_digit read digit ≡ None
     → number_after read (digit ∷ more) ≡ None
 number_after-stuck read digit more stuck =
-    elim (is_ascii_digit digit) as (λ b. is_ascii_digit digit ≡ b → number_after read (digit ∷ more) ≡ None) [
+    elim (is_ascii_digit digit) as (λ b. is_ascii_digit digit ≡ b
+    → number_after read (digit ∷ more) ≡ None) [
       | true ↦ λ is.
           let far : 2 ^ 64 ≤ read * 10 + digit_value digit = grind arith in
           rw is (number_after-large (read * 10 + digit_value digit) more far)
@@ -45,7 +48,9 @@ checked a b c d n p q = rw (p, q) refl
 pub number_of-after : (digits : List ℕ) → 1 ≤ length digits → length digits ≤ 20
     → number_of digits ≡ number_after 0 digits
 number_of-after digits some few =
-    checked (nat_le 1 (length digits)) (nat_le (length digits) 20) (list_all is_ascii_digit digits) (nat_lt (digits_value 10 digits) (2 ^ 64)) (digits_value 10 digits) (grind arith) (grind arith)
+    checked (nat_le 1 (length digits)) (nat_le (length digits) 20) (list_all is_ascii_digit digits)
+    (nat_lt (digits_value 10 digits) (2 ^ 64)) (digits_value 10 digits) (grind arith)
+    (grind arith)
 
 pub read_all : (read : ℕ) → read < 2 ^ 64 → number_after read [] ≡ Some read
 read_all read small = grind arith
@@ -53,14 +58,18 @@ read_all read small = grind arith
 pub read_stuck : (read at : ℕ) (digits : List ℕ) → at < length digits
     → with_digit read (get_or digits at 0) ≡ None
     → number_after read (drop at digits) ≡ None
-read_stuck read at digits within stuck = rw (drop-cons digits at 0) (number_after-stuck read (get_or digits at 0) (drop (suc at) digits) stuck)
+read_stuck read at digits within stuck =
+    rw (drop-cons digits at 0)
+    (number_after-stuck read (get_or digits at 0) (drop (suc at) digits) stuck)
 
 -- what is read of all digits, or of those up to one that can't follow
 pub number_of-read : (read at : ℕ) (digits : List ℕ) → 1 ≤ length digits → length digits ≤ 20
-    → number_after 0 digits ≡ number_after read (drop at digits) → length digits ≤ at → read < 2 ^ 64
+    → number_after 0 digits ≡ number_after read (drop at digits) → length digits ≤ at
+    → read < 2 ^ 64
     → Some read ≡ number_of digits
 number_of-read read at digits some few so_far whole small =
-    sym (number_of-after digits some few ∙ so_far ∙ ap (number_after read) (drop_of_length-le digits whole) ∙ read_all read small)
+    sym (number_of-after digits some few ∙ so_far
+    ∙ ap (number_after read) (drop_of_length-le digits whole) ∙ read_all read small)
 
 pub number_of-stuck : (read at : ℕ) (digits : List ℕ) → 1 ≤ length digits → length digits ≤ 20
     → number_after 0 digits ≡ number_after read (drop at digits) → at < length digits

@@ -60,4 +60,5 @@ pub record AreSeries (all : List Series) : Type 0 where
 
 -- of each label set they have exactly what is seen of it among rows
 abbrev pub HaveWhatIsSeen : ℕ → List Row → List Series → Type 0
-HaveWhatIsSeen d rows all = (labels : List Pair) → samples labels (flat_map rows_of all) ≡ visible d labels rows
+HaveWhatIsSeen d rows all = (labels : List Pair)
+    → samples labels (flat_map rows_of all) ≡ visible d labels rows

@@ -71,7 +71,8 @@ fn put_group(
     interval: u64,
 ) -> Result<(), AllocError>
     requires { OfOneSet labels.now group.now }
-    ensures { OnOk result (all.new ≡ all.old ++ series_of interval (flat_map rows_of_piece group.now)) }
+    ensures { OnOk result
+        (all.new ≡ all.old ++ series_of interval (flat_map rows_of_piece group.now)) }
 {
     let samples = samples_of(alloc, group)?;
     if samples.is_empty() {

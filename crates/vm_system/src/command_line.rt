@@ -6,8 +6,8 @@ use std::rt::Env;
 /// The words of the command line, without the program's name. The only error is that memory ran
 /// out.
 ///
-/// The system gives bytes, and no command knows a word that isn't UTF-8. Where there is such a word,
-/// even the program's name, this gives no words, and those are no command line either.
+/// The system gives bytes, and no command knows a word that isn't UTF-8. Where there is such a
+/// word, even the program's name, this gives no words, and those are no command line either.
 pub fn words<R: Env + AllocGlobal>(rt: &R) -> Result<Vec<String>, AllocError> {
     let mut words = Vec::new(rt.alloc());
     match env::args(rt) {

@@ -22,7 +22,8 @@ use Rattle.vm_top.specs.declared.response.Response.TheVariants as response
 
 -- a query of a run whose number is taken
 pub asks_taken : (state : State) (run : ℕ) (asked : Result Question QueryFault) (text : List ℕ)
-    → is_some (run_of run state.runs) ≡ true → text ≡ refused_line (RunTaken run) → Asks run asked state state text
+    → is_some (run_of run state.runs) ≡ true → text ≡ refused_line (RunTaken run)
+    → Asks run asked state state text
 asks_taken state run (Ok question) text some is =
     record { answer = Err (RunTaken run); steps = go (run_of run state.runs) some; text_is = is }
   where
@@ -41,14 +42,18 @@ none_there None is = refl
 none_there (Some open_run) is = absurd cc
 
 -- a query that asks for nothing
-pub asks_nothing : (state : State) (run : ℕ) (asked : Result Question QueryFault) (fault : QueryFault) (text : List ℕ)
-    → asked ≡ Err fault → run_of run state.runs ≡ None → text ≡ bad_query_line fault → Asks run asked state state text
+pub asks_nothing :
+    (state : State) (run : ℕ) (asked : Result Question QueryFault) (fault : QueryFault)
+    (text : List ℕ)
+    → asked ≡ Err fault → run_of run state.runs ≡ None → text ≡ bad_query_line fault
+    → Asks run asked state state text
 asks_nothing state run asked fault text is free line =
     subst (λ given. Asks run given state state text) (sym is)
     (refl, subst (λ there. IsToldOf fault run there text) (sym free) (inl line))
 
 -- a query for which there was no memory
-pub asks_without_memory : (state : State) (run : ℕ) (asked : Result Question QueryFault) (text : List ℕ)
+pub asks_without_memory :
+    (state : State) (run : ℕ) (asked : Result Question QueryFault) (text : List ℕ)
     → run_of run state.runs ≡ None → text ≡ refused_line Memory → Asks run asked state state text
 asks_without_memory state run (Ok question) text free line =
     record { answer = Err Memory; steps = (free, refl); text_is = line }
@@ -56,8 +61,11 @@ asks_without_memory state run (Err fault) text free line =
     (refl, subst (λ there. IsToldOf fault run there text) (sym free) (inr line))
 
 -- a query that asks for something
-pub asks_question : (before now : State) (run : ℕ) (asked : Result Question QueryFault) (question : Question) (text : List ℕ)
-    → asked ≡ Ok question → Answers run (begin run question) before now text → Asks run asked before now text
+pub asks_question :
+    (before now : State) (run : ℕ) (asked : Result Question QueryFault) (question : Question)
+    (text : List ℕ)
+    → asked ≡ Ok question → Answers run (begin run question) before now text
+    → Asks run asked before now text
 asks_question before now run asked question text is answers =
     subst (λ given. Asks run given before now text) (sym is) answers
 
@@ -71,23 +79,29 @@ ended before now number evaluated text steps (inl is) =
 ended before now number evaluated text steps (inr is) =
     record { answer = Err Memory; steps = go (run_of number before.runs) steps; text_is = is }
   where
-    go : (there : Option (Run Question)) → (now, Ok (values evaluated)) ≡ end_step instant there before number
+    go : (there : Option (Run Question))
+        → (now, Ok (values evaluated)) ≡ end_step instant there before number
         → (is_some there ≡ true) × (now ≡ without before number)
     go None is = let wrong : true ≡ false = ap (λ pair. is_ok pair.1) is in absurd cc
     go (Some run) is = (refl, ap (λ pair. pair.0) is)
 
 -- what holds of what is given gives another fact
-pub if_ok_more : {A E : Type 0} (result : Result A E) (P Q : A → Type 0) → ((a : A) → P a → Q a) → IfOk result P → IfOk result Q
+pub if_ok_more : {A E : Type 0} (result : Result A E) (P Q : A → Type 0) → ((a : A) → P a → Q a)
+    → IfOk result P → IfOk result Q
 if_ok_more (Ok a) P Q more p = more a p
 if_ok_more (Err e) P Q more p = tt
 
 -- a body whose batches were all accepted
-pub imported : (body : BodyOf) (passed : List (List ℕ)) (before now : State) (all : List Batch) (text : List ℕ) → Gathers body passed
-    → all ≡ with_more body.parted [] → Accepts before all now → text ≡ accepted_line (length all) (row_count all) body.skipped
+pub imported :
+    (body : BodyOf) (passed : List (List ℕ)) (before now : State) (all : List Batch) (text : List ℕ)
+    → Gathers body passed
+    → all ≡ with_more body.parted [] → Accepts before all now
+    → text ≡ accepted_line (length all) (row_count all) body.skipped
     → Imports body.format body.time passed before now text
 imported body passed before now all text gathers is accepts line =
     let means = said body.format body.time passed in
-    let these : all ≡ batches means = is ∙ sym (gathers.batches []) ∙ ap batches_of (append-nil (map or_none means)) in (
+    let these : all ≡ batches means = is ∙ sym (gathers.batches [])
+    ∙ ap batches_of (append-nil (map or_none means)) in (
       means,
       lines_mean body.format body.time passed,
       subst (λ t. BatchesCome means before now t)
@@ -97,12 +111,16 @@ imported body passed before now all text gathers is accepts line =
     )
 
 -- a body of which a batch was refused
-pub refused_body : (body : BodyOf) (passed : List (List ℕ)) (before now : State) (all : List Batch) (why : Refusal) (text : List ℕ)
-    → Gathers body passed → all ≡ with_more body.parted [] → Refuses before all now why → text ≡ refused_line why
+pub refused_body :
+    (body : BodyOf) (passed : List (List ℕ)) (before now : State) (all : List Batch) (why : Refusal)
+    (text : List ℕ)
+    → Gathers body passed → all ≡ with_more body.parted [] → Refuses before all now why
+    → text ≡ refused_line why
     → Imports body.format body.time passed before now text
 refused_body body passed before now all why text gathers is refuses line =
     let means = said body.format body.time passed in
-    let these : all ≡ batches means = is ∙ sym (gathers.batches []) ∙ ap batches_of (append-nil (map or_none means)) in (
+    let these : all ≡ batches means = is ∙ sym (gathers.batches [])
+    ∙ ap batches_of (append-nil (map or_none means)) in (
       means,
       lines_mean body.format body.time passed,
       subst (λ t. BatchesCome means before now t) (sym line)
@@ -115,6 +133,7 @@ on_err (Ok a) p = tt
 on_err (Err e) p = p
 
 -- what holds of an error holds of a result that is this error
-pub at_err : {A E : Type 0} (X : Result A E → Type 0) (result : Result A E) (e : E) → IsErrAnd result (λ f. f ≡ e) → X (Err e) → X result
+pub at_err : {A E : Type 0} (X : Result A E → Type 0) (result : Result A E) (e : E)
+    → IsErrAnd result (λ f. f ≡ e) → X (Err e) → X result
 at_err X (Ok a) e is x = absurd is
 at_err X (Err f) e is x = subst (λ g. X (Err g)) (sym is) x

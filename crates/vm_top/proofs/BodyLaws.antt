@@ -22,7 +22,8 @@ use Rattle.vm_top.specs.declared.fault.Fault.{Fault}
 use Rattle.vm_top.specs.declared.fault.Fault.TheVariants.{Usage, InputTooLong, BadLine, Input, Output, Memory}
 
 -- one more at the end of a list of which each element has a property
-pub all_more : {X : Type 0} (P : X → Type 0) (xs : List X) (x : X) → AllByRecursion P xs → P x → AllByRecursion P (xs ++ x ∷ [])
+pub all_more : {X : Type 0} (P : X → Type 0) (xs : List X) (x : X) → AllByRecursion P xs → P x
+    → AllByRecursion P (xs ++ x ∷ [])
 all_more P [] x are is = (is, tt)
 all_more P (y ∷ ys) x are is = (are.0, all_more P ys x are.1 is)
 
@@ -54,7 +55,8 @@ gathers_more old new passed text so_far adds =
           ∙ so_far.batches (or_none rows ∷ more)
           ∙ adds.comes more);
       skips = rw (adds.format, adds.time)
-          (adds.skips ∙ ap (λ count. count + skips rows) so_far.skips ∙ sym (sum_by_push skips means rows)
+          (adds.skips ∙ ap (λ count. count + skips rows) so_far.skips
+          ∙ sym (sum_by_push skips means rows)
           ∙ sym (ap skipped all));
       few = adds.few;
     }
@@ -69,8 +71,10 @@ pub is_end : (line : List ℕ) → is_body_end line ≡ true → line ≡ codes 
 is_end line is = (bytes_eq-Decides line (codes ".")).0 is
 
 -- where the input stopped within the body of an import
-pub breaks_of : (fault : Fault) (format : Format) (time : ℕ) (at : Place) (left_at left_after : Option (List ℕ))
-    → IsCutShort (Some (Import format time)) at left_at left_after → BreaksOff fault (Some (Import format time)) at left_at left_after
+pub breaks_of :
+    (fault : Fault) (format : Format) (time : ℕ) (at : Place) (left_at left_after : Option (List ℕ))
+    → IsCutShort (Some (Import format time)) at left_at left_after
+    → BreaksOff fault (Some (Import format time)) at left_at left_after
 breaks_of Input format time at left_at left_after cut = cut
 breaks_of InputTooLong format time at left_at left_after cut = cut
 breaks_of Usage format time at left_at left_after cut = tt

@@ -8,5 +8,7 @@ three_or_more (a ∷ []) h = absurd (omega arith)
 three_or_more (a ∷ b ∷ []) h = absurd (omega arith)
 three_or_more (a ∷ b ∷ c ∷ more) h = refl
 
-pub last_of-long : (before after : List (List ℕ)) → 3 ≤ length before → None ≡ last_of (before ++ after)
-last_of-long before after h = three_or_more (before ++ after) (omega (arith, length-append before after))
+pub last_of-long : (before after : List (List ℕ)) → 3 ≤ length before
+    → None ≡ last_of (before ++ after)
+last_of-long before after h =
+    three_or_more (before ++ after) (omega (arith, length-append before after))

@@ -13,7 +13,8 @@ use Rattle.vm_top.specs.Rows.{LinesMean, rows_of}
 
 -- the series of a name
 abbrev pub named : List ℕ → Selector
-named name = record { lists = (record { name = codes "__name__"; op = Equal; value = name } ∷ []) ∷ [] }
+named name =
+    record { lists = (record { name = codes "__name__"; op = Equal; value = name } ∷ []) ∷ [] }
 
 -- the instant query of a name at a time in ms
 abbrev pub question : List ℕ → ℕ → Question
@@ -29,8 +30,8 @@ IsLastAnswer name time now input text =
     (said : List (Option (List Row))) × LinesMean Prom now (lines input) said
     × (text ≡ last_answer name time (rows_of said))
 
--- It reads the clock and writes its answer. It refuses an input that is too long; where it refuses or stops, it wrote
--- nothing.
+-- It reads the clock and writes its answer. It refuses an input that is too long; where it refuses
+-- or stops, it wrote nothing.
 abbrev pub last_promise : List ℕ → ℕ → Promise
 last_promise name time = record {
   reads_clock = true;

@@ -1,8 +1,8 @@
 -- What a command promises.
 use Rattle.std.specs.Prelude.{ℕ, ◌^◌, ◌<◌, ◌≤◌, Bool, List, length}
 
--- Of each command one record. `now` is what the clock says, `input` the bytes of its input, `left` those of them that
--- were not taken, and `text` what is written.
+-- Of each command one record. `now` is what the clock says, `input` the bytes of its input, `left`
+-- those of them that were not taken, and `text` what is written.
 pub record Promise : Type 1 where
   -- whether it reads the clock, which it does once
   pub reads_clock : Bool

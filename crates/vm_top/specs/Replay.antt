@@ -47,13 +47,14 @@ question_of time expression =
     if nat_lt 281474976710655 time then Err BadRange else asked_of time (selector_of expression)
 
 -- the machine does what an event asks, and its answer is printed
-pub record Answers (run : ℕ) (event : Event Question) (before now : State) (text : List ℕ) : Type 0 where
+pub record Answers (run : ℕ) (event : Event Question) (before now : State) (text : List ℕ) :
+    Type 0 where
   pub answer : Result (Answer Evaluated) Refusal
   pub steps : Steps instant before event now answer
   pub text_is : text ≡ printed run answer
 
--- what is printed of a query that asks for nothing: that its run is taken, or else what is wrong with it,
--- unless memory runs out while it is read
+-- what is printed of a query that asks for nothing: that its run is taken, or else what is wrong
+-- with it, unless memory runs out while it is read
 abbrev pub IsToldOf : QueryFault → ℕ → Option (OpenRun Question) → List ℕ → Type 0
 IsToldOf fault run (Some taken) text = text ≡ refused_line (RunTaken run)
 IsToldOf fault run None text = (text ≡ bad_query_line fault) ⊎ (text ≡ refused_line Memory)
@@ -61,16 +62,20 @@ IsToldOf fault run None text = (text ≡ bad_query_line fault) ⊎ (text ≡ ref
 -- a query is begun where it asks for something, and else changes nothing
 abbrev pub Asks : ℕ → Result Question QueryFault → State → State → List ℕ → Type 0
 Asks run (Ok question) before now text = Answers run (begin run question) before now text
-Asks run (Err fault) before now text = (now ≡ before) × IsToldOf fault run (run_of run before.runs) text
+Asks run (Err fault) before now text = (now ≡ before)
+    × IsToldOf fault run (run_of run before.runs) text
 
 -- batches are accepted, one after the other
 pub data Accepts : State → List Batch → State → Type 0 where
   no_batch : (state : State) → Accepts state [] state
-  next_batch : (before mid now : State) (batches : List Batch) (batch : Batch) → Accepts before batches mid
-      → Steps instant mid (import batch) now (Ok accepted) → Accepts before (batches ++ batch ∷ []) now
+  next_batch : (before mid now : State) (batches : List Batch) (batch : Batch)
+      → Accepts before batches mid
+      → Steps instant mid (import batch) now (Ok accepted)
+      → Accepts before (batches ++ batch ∷ []) now
 
 -- batches are accepted up to one that is refused
-pub record Refuses (before : State) (batches : List Batch) (now : State) (why : Refusal) : Type 0 where
+pub record Refuses (before : State) (batches : List Batch) (now : State) (why : Refusal) :
+    Type 0 where
   pub first : List Batch
   pub batch : Batch
   pub more : List Batch
@@ -88,21 +93,25 @@ abbrev pub skipped : List (Option (List Row)) → ℕ
 skipped said = count_by is_none said
 
 -- the batches of lines that mean this come, all of them or up to the first that is refused
-pub data BatchesCome (said : List (Option (List Row))) (before : State) : State → List ℕ → Type 0 where
+pub data BatchesCome (said : List (Option (List Row))) (before : State) : State → List ℕ
+    → Type 0 where
   all_accepted : (now : State) → Accepts before (batches said) now
-      → BatchesCome said before now (accepted_line (length (batches said)) (row_count (batches said)) (skipped said))
+      → BatchesCome said before now
+      (accepted_line (length (batches said)) (row_count (batches said)) (skipped said))
   one_refused : (now : State) (why : Refusal) → Refuses before (batches said) now why
       → BatchesCome said before now (refused_line why)
 
 -- a body is imported whose lines are of a format and read at a time
 abbrev pub Imports : Format → ℕ → List (List ℕ) → State → State → List ℕ → Type 0
 Imports format time body before now text =
-    (said : List (Option (List Row))) × LinesMean format time body said × BatchesCome said before now text
+    (said : List (Option (List Row))) × LinesMean format time body said
+    × BatchesCome said before now text
 
 -- a command with a body is done, and this is printed
 abbrev pub Does : Command → List (List ℕ) → State → State → List ℕ → Type 0
 Does (Import format time) body before now text = Imports format time body before now text
-Does (Query run time expression) body before now text = Asks run (question_of time expression) before now text
+Does (Query run time expression) body before now text =
+    Asks run (question_of time expression) before now text
 Does (Run run) body before now text = Answers run (read run) before now text
 Does (End run) body before now text = Answers run (end run) before now text
 Does (Close run) body before now text = Answers run (close run) before now text
@@ -148,8 +157,8 @@ IsOpen [] = ⊤
 IsOpen (line ∷ body) =
     (format : Format) × (time : ℕ) × (command_of line ≡ Some (Import format time)) × AreWithin body
 
--- What all commands print whose lines stand whole in the bytes that were taken, and nothing else. After them come
--- at most an import and lines of its body.
+-- What all commands print whose lines stand whole in the bytes that were taken, and nothing else.
+-- After them come at most an import and lines of its body.
 pub record IsPlayedSoFar (taken text : List ℕ) : Type 0 where
   pub entries : List Entry
   pub are : AllByRecursion IsEntry entries
@@ -160,15 +169,17 @@ pub record IsPlayedSoFar (taken text : List ℕ) : Type 0 where
 
 -- this is what was written by the time that so much of the input was left
 abbrev pub IsPlayedBefore : List ℕ → List ℕ → List ℕ → Type 0
-IsPlayedBefore left input text = (taken : List ℕ) × (input ≡ taken ++ left) × IsPlayedSoFar taken text
+IsPlayedBefore left input text = (taken : List ℕ) × (input ≡ taken ++ left)
+    × IsPlayedSoFar taken text
 
--- `replay` prints what the commands of its script print, one after the other. It refuses an input that is too long,
--- and a script with a line outside its grammar. It doesn't read the clock.
+-- `replay` prints what the commands of its script print, one after the other. It refuses an input
+-- that is too long, and a script with a line outside its grammar. It doesn't read the clock.
 abbrev pub replay_promise : Promise
 replay_promise = record {
   reads_clock = false;
   answers = λ now input text. IsPlayed (lines input) text;
   owes = λ now input text. IsPlayedInPart (lines input) text;
-  refuses = λ left input text. (IsTooLong input × IsPlayedBefore left input text) ⊎ IsPlayedToBad (lines input) text;
+  refuses = λ left input text. (IsTooLong input × IsPlayedBefore left input text)
+      ⊎ IsPlayedToBad (lines input) text;
   stops = IsPlayedBefore;
 }

@@ -16,7 +16,8 @@ point at value = codes "[" ++ seconds at ++ codes ",\"" ++ number_text value ++ 
 -- a series with its value at a time
 abbrev pub series : ℕ → Valued → List ℕ
 series at valued =
-    codes "{\"metric\":" ++ label_json valued.labels ++ codes ",\"value\":" ++ point at valued.value ++ codes "}"
+    codes "{\"metric\":" ++ label_json valued.labels ++ codes ",\"value\":" ++ point at valued.value
+    ++ codes "}"
 
 -- a series after another one
 abbrev pub next_series : ℕ → Valued → List ℕ

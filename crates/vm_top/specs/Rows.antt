@@ -14,7 +14,8 @@ LineMeans Json now line rows = JsonMeansRows line rows
 -- each line means the rows at its place
 abbrev pub LinesMean : Format → ℕ → List (List ℕ) → List (Option (List Row)) → Type 0
 LinesMean format now [] [] = ⊤
-LinesMean format now (line ∷ lines) (rows ∷ said) = LineMeans format now line rows × LinesMean format now lines said
+LinesMean format now (line ∷ lines) (rows ∷ said) = LineMeans format now line rows
+    × LinesMean format now lines said
 LinesMean format now _ _ = ⊥
 
 -- the rows of a line, no row of one that is skipped

@@ -30,39 +30,45 @@ abbrev pub Wrote : (List ℕ → List ℕ → Type 0) → Option (List ℕ) → 
 Wrote Is before after input = (text : List ℕ) × Is input text × Takes before text after
 
 -- the answer was written, and nothing else
-pub record IsAnswered (promise : Promise) (now : ℕ) (before after : Option (List ℕ)) (input : List ℕ) : Type 0 where
+pub record IsAnswered (promise : Promise) (now : ℕ) (before after : Option (List ℕ))
+    (input : List ℕ) : Type 0 where
   pub short : IsShort input
   pub text : List ℕ
   pub answers : promise.answers now input text
   pub written : Takes before text after
 
 -- a first part of what was due was written, and nothing else
-pub record IsAnsweredInPart (promise : Promise) (now : ℕ) (before after : Option (List ℕ)) (input : List ℕ) : Type 0 where
+pub record IsAnsweredInPart (promise : Promise) (now : ℕ) (before after : Option (List ℕ))
+    (input : List ℕ) : Type 0 where
   pub text : List ℕ
   pub due : promise.owes now input text
   pub part : ℕ
   pub within : part ≤ length text
   pub written : Takes before (take part text) after
 
--- What was done of a promise, from one world to another, by the time that the program ends with a status.
+-- What was done of a promise, from one world to another, by the time that the program ends with a
+-- status.
 pub record IsDone (promise : Promise) (status : Status) (before after : World) : Type 0 where
   pub now : ℕ
   pub clock : IsClocked promise.reads_clock now before.clock after.clock
   -- 0: it answered, and read the input to its end
-  pub answered : status ≡ code.Ok → Told before.input (IsAnswered promise now before.output after.output)
+  pub answered : status ≡ code.Ok
+      → Told before.input (IsAnswered promise now before.output after.output)
   pub read : status ≡ code.Ok → after.input ≡ option_map (λ _. []) before.input
   -- 1: it refused its input
   pub refused : status ≡ code.Refused → Told before.input (λ input. Told after.input (λ left.
       Wrote (promise.refuses left) before.output after.output input))
   -- 3: memory ran out, and this is what it would have written had the input failed somewhere
   pub stopped : status ≡ code.Memory → Told before.input
-      (Wrote (λ input text. (left : List ℕ) × promise.stops left input text) before.output after.output)
+      (Wrote (λ input text. (left : List ℕ) × promise.stops left input text) before.output
+      after.output)
   -- 6: the input failed, and counted that
   pub failed : status ≡ code.InputFault → Told before.input (λ input. Told after.input (λ left.
       Wrote (promise.stops left) before.output after.output input))
   pub input_fault : status ≡ code.InputFault → Rose before.input_faults after.input_faults
   -- 7: the output failed, and counted that
-  pub part : status ≡ code.OutputFault → Told before.input (IsAnsweredInPart promise now before.output after.output)
+  pub part : status ≡ code.OutputFault
+      → Told before.input (IsAnsweredInPart promise now before.output after.output)
   pub output_fault : status ≡ code.OutputFault → Rose before.output_faults after.output_faults
   -- no other status is given
   pub known : (status ≡ code.Ok) ⊎ (status ≡ code.Refused) ⊎ (status ≡ code.Memory)
@@ -108,13 +114,14 @@ abbrev pub note_of : Fault → List ℕ
 note_of fault = codes "vmsingle: " ++ text_of fault ++ codes "\n"
 
 -- a line was written, or a first part of it where the count of faults rose
-pub record IsNote (line : List ℕ) (before now : Option (List ℕ)) (faults_before faults_now : ℕ) : Type 0 where
+pub record IsNote (line : List ℕ) (before now : Option (List ℕ)) (faults_before faults_now : ℕ) :
+    Type 0 where
   pub part : ℕ
   pub whole : (part ≡ length line) ⊎ Rose faults_before faults_now
   pub written : Takes before (take part line) now
 
--- nothing is noted of what went well; of all else a line that says a fault, which has this status and
--- whose cause holds
+-- nothing is noted of what went well; of all else a line that says a fault, which has this status
+-- and whose cause holds
 abbrev pub IsNoted : Status → Option Task → Option (List ℕ) → Option (List ℕ) → Option (List ℕ)
     → ℕ → ℕ → Type 0
 IsNoted status task input before now faults_before faults_now =

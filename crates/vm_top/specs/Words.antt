@@ -23,7 +23,8 @@ positional (word ∷ more) = if bytes_eq word (codes "--") then more else word �
 
 -- `NAME TIME`
 abbrev pub last_of : List (List ℕ) → Option Task
-last_of (name ∷ time ∷ []) = if is_name name then option_map (λ at. last name at) (time_of time) else None
+last_of (name ∷ time ∷ []) = if is_name name then option_map (λ at. last name at) (time_of time)
+    else None
 last_of _ = None
 
 -- no word

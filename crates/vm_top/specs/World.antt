@@ -1,8 +1,8 @@
 -- What objects tell of the world around a call.
 use Rattle.std.specs.Prelude.{ℕ, List, Option}
 
--- What the clock will answer, what the input has left, and what the output took, each where that is told; and how
--- many faults the input and the output counted.
+-- What the clock will answer, what the input has left, and what the output took, each where that is
+-- told; and how many faults the input and the output counted.
 pub record World : Type 0 where
   pub clock : Option (List ℕ)
   pub input : Option (List ℕ)

@@ -46,8 +46,8 @@ fn import_all(machine: &mut Machine, batches: List<Batch>) -> Result<(), Refusal
     Ok(())
 }
 
-/// Begins a run of the instant query of an expression. That the run's number is taken comes before what is
-/// wrong with the query.
+/// Begins a run of the instant query of an expression. That the run's number is taken comes before
+/// what is wrong with the query.
 pub fn begin_query(
     alloc: Global,
     machine: &mut Machine,
@@ -107,7 +107,8 @@ fn question_of(
 
 /// Reads one series for a run.
 pub fn read_series(machine: &mut Machine, run: u64) -> Response
-    ensures answers { (text : ListOf ℕ) → Prints result text → Answers run (read run) machine.old machine.new text }
+    ensures answers { (text : ListOf ℕ) → Prints result text
+        → Answers run (read run) machine.old machine.new text }
     ensures small { IsInRange result }
 {
     match machine.read(run) {
@@ -119,7 +120,8 @@ pub fn read_series(machine: &mut Machine, run: u64) -> Response
 
 /// Ends a run, with its answer.
 pub fn end_run(alloc: Global, machine: &mut Machine, run: u64) -> Response
-    ensures answers { (text : ListOf ℕ) → Prints result text → Answers run (end run) machine.old machine.new text }
+    ensures answers { (text : ListOf ℕ) → Prints result text
+        → Answers run (end run) machine.old machine.new text }
     ensures small { IsInRange result }
 {
     match machine.end(alloc, run) {
@@ -130,7 +132,8 @@ pub fn end_run(alloc: Global, machine: &mut Machine, run: u64) -> Response
 
 /// Closes a run.
 pub fn close_run(machine: &mut Machine, run: u64) -> Response
-    ensures answers { (text : ListOf ℕ) → Prints result text → Answers run (close run) machine.old machine.new text }
+    ensures answers { (text : ListOf ℕ) → Prints result text
+        → Answers run (close run) machine.old machine.new text }
     ensures small { IsInRange result }
 {
     match machine.close(run) {

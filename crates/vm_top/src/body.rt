@@ -44,7 +44,12 @@ impl Model for Body {
 
     ghost Value = { BodyOf };
 
-    ghost view = { λ b. record { format = b.format; time = b.time; parted = b.batches; skipped = b.skipped } };
+    ghost view = { λ b. record {
+      format = b.format;
+      time = b.time;
+      parted = b.batches;
+      skipped = b.skipped;
+    } };
 
     ghost invariant = { λ b. b.time < 2 ^ 48 };
 }
@@ -84,7 +89,8 @@ impl Body {
     }
 
     fn add_text(&mut self, alloc: Global, line: Line) -> Result<(), AllocError>
-        ensures { OnOk result (length self.old.parted.held < enough → Adds (rows_of line) self.old self.new) }
+        ensures { OnOk result
+            (length self.old.parted.held < enough → Adds (rows_of line) self.old self.new) }
     {
         match line {
             Line::Row(row) => self.batches.add(alloc, row),
@@ -94,7 +100,8 @@ impl Body {
     }
 
     fn add_json(&mut self, alloc: Global, line: JsonLine) -> Result<(), AllocError>
-        ensures { OnOk result (length self.old.parted.held < enough → Adds (rows_said line) self.old self.new) }
+        ensures { OnOk result
+            (length self.old.parted.held < enough → Adds (rows_said line) self.old self.new) }
     {
         match line {
             JsonLine::Rows(rows) => self.batches.add_line(alloc, rows),
@@ -146,16 +153,19 @@ pub fn read_body<S: Source>(
     // What `Ok` holds.
     ensures reads { IfOk result (λ body.
         ReadsBody format time body lines.old lines.new (S.left input.old) (S.left input.new)) }
-    ensures over { OnOk result (GoesOver lines.old lines.new (S.left input.old) (S.left input.new)) }
+    ensures over { OnOk result
+        (GoesOver lines.old lines.new (S.left input.old) (S.left input.new)) }
 
     // When each error comes.
-    ensures input_fault { IsErrOf result Fault.Input → Rose (S.faults input.old) (S.faults input.new) }
+    ensures input_fault { IsErrOf result Fault.Input
+        → Rose (S.faults input.old) (S.faults input.new) }
     ensures too_long { IsErrOf result Fault.InputTooLong → Told (S.left input.old) (λ bytes.
         2 ^ 62 ≤ lines.old.reading.taken + length bytes) }
     ensures others { OnErr result (IsErrOf result Fault.Input ⊎ IsErrOf result Fault.InputTooLong
         ⊎ IsErrOf result Fault.Memory) }
     ensures breaks { IfErr result (λ fault.
-        BreaksOff fault (Some (Import format time)) lines.old (S.left input.old) (S.left input.new)) }
+        BreaksOff fault (Some (Import format time)) lines.old (S.left input.old)
+        (S.left input.new)) }
 
     // What each call does to the bytes.
     ensures end { KnowsEnd lines.new.reading (S.left input.new) }
@@ -175,7 +185,8 @@ pub fn read_body<S: Source>(
 /// What a line of JSON says that was come to.
 #[tactic(auto, using(crate::proofs::InputLaws::json_long))]
 fn read_json_step(alloc: Global, step: Step, shown: &[u8]) -> Result<JsonLine, AllocError>
-    ensures { IfOk result (λ said. (line : ListOf ℕ) → IsLineOf step shown.now line → said ≡ json_reading line) }
+    ensures { IfOk result
+        (λ said. (line : ListOf ℕ) → IsLineOf step shown.now line → said ≡ json_reading line) }
 {
     match step {
         Step::Line => jsonline::read_line(alloc, shown),

@@ -23,8 +23,10 @@ pub fn run<S: Source, K: Sink, C: Clock>(
     clock: &mut C,
 ) -> Result<(), Fault>
     ensures done { IsDoneBy (asked (map string_bytes words.now)) (outcome result)
-        (world (C.answers clock.old) (S.left input.old) (S.faults input.old) (K.taken output.old) (K.faults output.old))
-        (world (C.answers clock.new) (S.left input.new) (S.faults input.new) (K.taken output.new) (K.faults output.new)) }
+        (world (C.answers clock.old) (S.left input.old) (S.faults input.old) (K.taken output.old)
+        (K.faults output.old))
+        (world (C.answers clock.new) (S.left input.new) (S.faults input.new) (K.taken output.new)
+        (K.faults output.new)) }
     ensures cause { IfErr result (λ fault. Told (S.left input.old)
         (IsCause fault (asked (map string_bytes words.now)))) }
 
@@ -50,9 +52,12 @@ fn run_last<S: Source, K: Sink, C: Clock>(
 ) -> Result<(), Fault>
     requires { time < 2 ^ 48 }
     ensures done { IsDone (last_promise name.now time) (outcome result)
-        (world (C.answers clock.old) (S.left input.old) (S.faults input.old) (K.taken output.old) (K.faults output.old))
-        (world (C.answers clock.new) (S.left input.new) (S.faults input.new) (K.taken output.new) (K.faults output.new)) }
-    ensures cause { IfErr result (λ fault. Told (S.left input.old) (IsCause fault (Some (last name.now time)))) }
+        (world (C.answers clock.old) (S.left input.old) (S.faults input.old) (K.taken output.old)
+        (K.faults output.old))
+        (world (C.answers clock.new) (S.left input.new) (S.faults input.new) (K.taken output.new)
+        (K.faults output.new)) }
+    ensures cause { IfErr result
+        (λ fault. Told (S.left input.old) (IsCause fault (Some (last name.now time)))) }
     ensures input_counted { S.faults input.old ≤ S.faults input.new }
     ensures output_counted { K.faults output.old ≤ K.faults output.new }
 {

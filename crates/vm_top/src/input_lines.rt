@@ -61,13 +61,16 @@ impl InputLines {
         // What `Ok` holds.
         ensures comes { IfOk result (λ step.
             Comes step self.old self.new (S.left input.old) (S.left input.new)) }
-        ensures over { OnOk result (GoesOver self.old self.new (S.left input.old) (S.left input.new)) }
+        ensures over { OnOk result
+            (GoesOver self.old self.new (S.left input.old) (S.left input.new)) }
 
         // When each error comes.
-        ensures input_fault { IsErrOf result Fault.Input → Rose (S.faults input.old) (S.faults input.new) }
+        ensures input_fault { IsErrOf result Fault.Input
+            → Rose (S.faults input.old) (S.faults input.new) }
         ensures too_long { IsErrOf result Fault.InputTooLong → Told (S.left input.old) (λ bytes.
             2 ^ 62 ≤ self.old.reading.taken + length bytes) }
-        ensures others { OnErr result (IsErrOf result Fault.Input ⊎ IsErrOf result Fault.InputTooLong
+        ensures others { OnErr result
+            (IsErrOf result Fault.Input ⊎ IsErrOf result Fault.InputTooLong
             ⊎ IsErrOf result Fault.Memory) }
         ensures stops { OnErr result (StopsAt self.old (S.left input.old) (S.left input.new)) }
 

@@ -26,8 +26,8 @@ use vm_machine::{Found, Question};
 use vm_outside::Source;
 use vm_promtext::{Line, read_line};
 
-/// The answer of `last NAME TIME` over an input, which is read to its end. A line without a time has the
-/// time `now`.
+/// The answer of `last NAME TIME` over an input, which is read to its end. A line without a time
+/// has the time `now`.
 pub fn last_answer<S: Source>(
     alloc: Global,
     name: &str,
@@ -45,7 +45,8 @@ pub fn last_answer<S: Source>(
     ensures end { OnOk result (S.left input.new ≡ option_map (λ _. []) (S.left input.old)) }
 
     // When each error comes.
-    ensures input_fault { IsErrOf result Fault.Input → Rose (S.faults input.old) (S.faults input.new) }
+    ensures input_fault { IsErrOf result Fault.Input
+        → Rose (S.faults input.old) (S.faults input.new) }
     ensures too_long { IsErrOf result Fault.InputTooLong → Told (S.left input.old) (λ bytes.
         2 ^ 62 ≤ length bytes) }
     ensures others { OnErr result (IsErrOf result Fault.Input ⊎ IsErrOf result Fault.InputTooLong
@@ -94,7 +95,8 @@ fn find_in<S: Source>(
         found ≡ found_in question.now (rows now (lines bytes)))) }
     ensures short { OnOk result (Told (S.left input.old) IsShort) }
     ensures end { OnOk result (S.left input.new ≡ option_map (λ _. []) (S.left input.old)) }
-    ensures input_fault { IsErrOf result Fault.Input → Rose (S.faults input.old) (S.faults input.new) }
+    ensures input_fault { IsErrOf result Fault.Input
+        → Rose (S.faults input.old) (S.faults input.new) }
     ensures too_long { IsErrOf result Fault.InputTooLong → Told (S.left input.old) (λ bytes.
         2 ^ 62 ≤ length bytes) }
     ensures others { OnErr result (IsErrOf result Fault.Input ⊎ IsErrOf result Fault.InputTooLong
@@ -114,7 +116,8 @@ fn find_in<S: Source>(
 #[tactic(auto, using(crate::proofs::InputLaws::reading_long))]
 pub fn read_step(alloc: Global, step: Step, shown: &[u8], now: u64) -> Result<Line, AllocError>
     requires { now < 2 ^ 48 }
-    ensures { IfOk result (λ said. (line : ListOf ℕ) → IsLineOf step shown.now line → said ≡ reading now line) }
+    ensures { IfOk result
+        (λ said. (line : ListOf ℕ) → IsLineOf step shown.now line → said ≡ reading now line) }
 {
     match step {
         Step::Line => read_line(alloc, shown, now),

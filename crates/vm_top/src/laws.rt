@@ -8,13 +8,15 @@ pub fn lines_mean_one_thing()
     ensures one { OneMeaning }
 {}
 
-/// A script has at most one first line outside its grammar, and none where all its lines are commands.
+/// A script has at most one first line outside its grammar, and none where all its lines are
+/// commands.
 pub fn one_line_is_the_first_bad_one()
     ensures one { OneBadLine }
     ensures none { NoBadLine }
 {}
 
-/// A script prints one text: two plays of it print the same, unless an answer is that memory ran out.
+/// A script prints one text: two plays of it print the same, unless an answer is that memory ran
+/// out.
 pub fn a_script_prints_one_text()
     ensures { OnePlay }
 {}

@@ -19,14 +19,15 @@ use vm_machine::Machine;
 use vm_outside::{Sink, Source};
 use vm_script::{Command, read_command};
 
-/// Plays a script on a machine to which nothing happened yet. What a command prints is written before
-/// the next command is read.
+/// Plays a script on a machine to which nothing happened yet. What a command prints is written
+/// before the next command is read.
 pub fn play<S: Source, K: Sink>(alloc: Global, input: &mut S, output: &mut K) -> Result<(), Fault>
     ensures ends { Told (S.left input.old)
         (Ends result (S.left input.new) (K.taken output.old) (K.taken output.new)) }
     ensures read { OnOk result (S.left input.new ≡ option_map (λ _. []) (S.left input.old)) }
     ensures known { IsErrOf result Fault.Usage → ⊥ }
-    ensures input_fault { IsErrOf result Fault.Input → Rose (S.faults input.old) (S.faults input.new) }
+    ensures input_fault { IsErrOf result Fault.Input
+        → Rose (S.faults input.old) (S.faults input.new) }
     ensures output_fault { IsErrOf result Fault.Output →
         Rose (K.faults output.old) (K.faults output.new) }
     ensures input_counted { S.faults input.old ≤ S.faults input.new }
@@ -52,19 +53,25 @@ fn play_line<S: Source>(
     requires { KnowsEnd lines.old.reading (S.left input.old) }
 
     // What `Ok` holds.
-    ensures plays { IfOk result (λ response. (line : ListOf ℕ) → IsLineOf step lines.old.reading.line line
+    ensures plays { IfOk result
+        (λ response. (line : ListOf ℕ) → IsLineOf step lines.old.reading.line line
         → (text : ListOf ℕ) → Prints response text
-        → PlaysLine line machine.old machine.new lines.old lines.new (S.left input.old) (S.left input.new) text) }
+        → PlaysLine line machine.old machine.new lines.old lines.new (S.left input.old)
+        (S.left input.new) text) }
     ensures small { IfOk result IsInRange }
-    ensures over { OnOk result (GoesOver lines.old lines.new (S.left input.old) (S.left input.new)) }
+    ensures over { OnOk result
+        (GoesOver lines.old lines.new (S.left input.old) (S.left input.new)) }
 
     // When each error comes.
-    ensures broken { IfErr result (λ fault. (line : ListOf ℕ) → IsLineOf step lines.old.reading.line line
+    ensures broken { IfErr result
+        (λ fault. (line : ListOf ℕ) → IsLineOf step lines.old.reading.line line
         → IsBrokenBy fault (command_of line) lines.old (S.left input.old)) }
-    ensures breaks { IfErr result (λ fault. (line : ListOf ℕ) → IsLineOf step lines.old.reading.line line
+    ensures breaks { IfErr result
+        (λ fault. (line : ListOf ℕ) → IsLineOf step lines.old.reading.line line
         → BreaksOff fault (command_of line) lines.old (S.left input.old) (S.left input.new)) }
     ensures known { IfErr result CanPlay }
-    ensures input_fault { IsErrOf result Fault.Input → Rose (S.faults input.old) (S.faults input.new) }
+    ensures input_fault { IsErrOf result Fault.Input
+        → Rose (S.faults input.old) (S.faults input.new) }
     ensures too_long { IsErrOf result Fault.InputTooLong → Told (S.left input.old) (λ bytes.
         2 ^ 62 ≤ lines.old.reading.taken + length bytes) }
 
@@ -106,14 +113,18 @@ fn play_command<S: Source>(
     requires bounded { IsBounded command }
     requires knows { KnowsEnd lines.old.reading (S.left input.old) }
     ensures plays { IfOk result (λ response. (text : ListOf ℕ) → Prints response text
-        → PlaysCommand command machine.old machine.new lines.old lines.new (S.left input.old) (S.left input.new) text) }
+        → PlaysCommand command machine.old machine.new lines.old lines.new (S.left input.old)
+        (S.left input.new) text) }
     ensures small { IfOk result IsInRange }
-    ensures over { OnOk result (GoesOver lines.old lines.new (S.left input.old) (S.left input.new)) }
-    ensures broken { IfErr result (λ fault. IsBrokenBy fault (Some command) lines.old (S.left input.old)) }
+    ensures over { OnOk result
+        (GoesOver lines.old lines.new (S.left input.old) (S.left input.new)) }
+    ensures broken { IfErr result
+        (λ fault. IsBrokenBy fault (Some command) lines.old (S.left input.old)) }
     ensures breaks { IfErr result (λ fault.
         BreaksOff fault (Some command) lines.old (S.left input.old) (S.left input.new)) }
     ensures known { IfErr result CanPlay }
-    ensures input_fault { IsErrOf result Fault.Input → Rose (S.faults input.old) (S.faults input.new) }
+    ensures input_fault { IsErrOf result Fault.Input
+        → Rose (S.faults input.old) (S.faults input.new) }
     ensures too_long { IsErrOf result Fault.InputTooLong → Told (S.left input.old) (λ bytes.
         2 ^ 62 ≤ lines.old.reading.taken + length bytes) }
     ensures takes { Takes lines.old lines.new (S.left input.old) (S.left input.new) }

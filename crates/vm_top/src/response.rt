@@ -17,7 +17,8 @@ use vm_outside::{Failed, Sink, write_all};
 /// What a command answered.
 #[derive(Drop)]
 pub enum Response {
-    /// A body was imported: how many batches and rows it has, and how many of its lines were skipped.
+    /// A body was imported: how many batches and rows it has, and how many of its lines were
+    /// skipped.
     Accepted {
         batches: usize,
         rows: usize,
@@ -48,8 +49,8 @@ pub enum Response {
     },
 }
 
-/// Writes what a command answered. Where there is no memory for a reply it writes the line that says so; no other
-/// answer takes memory.
+/// Writes what a command answered. Where there is no memory for a reply it writes the line that
+/// says so; no other answer takes memory.
 pub fn write_response<K: Sink>(
     alloc: Global,
     output: &mut K,
@@ -85,7 +86,8 @@ fn write_reply<K: Sink>(
     values: &List<Valued>,
 ) -> Result<(), Fault>
     requires { time < 2 ^ 48 }
-    ensures writes { Writes (response.Values time values.now) result (K.taken output.old) (K.taken output.new) }
+    ensures writes { Writes (response.Values time values.now) result (K.taken output.old)
+        (K.taken output.new) }
     ensures only { OnErr result (IsErrOf result Fault.Output) }
     ensures failed { OnErr result (Rose (K.faults output.old) (K.faults output.new)) }
     ensures counted { K.faults output.old ≤ K.faults output.new }

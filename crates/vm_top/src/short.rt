@@ -5,7 +5,8 @@ ghost use Rattle.std.specs.Prelude.{◌≡◌, ◌≤◌, ◌+◌, ◌++◌, len
 use arrayvec::ArrayVec;
 use itoa::Buffer;
 
-/// How many bytes the longest line has: that of a body that was imported, with three numbers of 20 digits.
+/// How many bytes the longest line has: that of a body that was imported, with three numbers of 20
+/// digits.
 pub const LONGEST: usize = 93;
 
 /// A line of at most 93 bytes.

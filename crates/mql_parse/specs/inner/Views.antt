@@ -23,7 +23,8 @@ the_head h = record { at = h.at; name = h.name }
 
 -- a call as far as it was read
 abbrev pub the_call : Calling → Call
-the_call c = record { at = c.at; name = c.name; args = map tree c.args; before = c.before; after = c.after }
+the_call c =
+    record { at = c.at; name = c.name; args = map tree c.args; before = c.before; after = c.after }
 
 -- an operator and its left operand
 abbrev pub the_joint : Pending → Joint

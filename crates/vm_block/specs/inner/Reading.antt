@@ -44,7 +44,8 @@ pub record AreStamped (e : ℤ) (ts ms : List ℤ) (samples : List Stamped) : Ty
 -- them or at their end
 abbrev pub IsColumnFault : Coding → ℤ → ℕ → List ℕ → BlockFault → Type 0
 IsColumnFault coding first count bytes Memory = ⊤
-IsColumnFault coding first count bytes (Broken at) = IsBroken coding first count bytes at × (at ≤ length bytes)
+IsColumnFault coding first count bytes (Broken at) = IsBroken coding first count bytes at
+    × (at ≤ length bytes)
 
 -- the exponent of a sample, counted from -1000, where there is one
 abbrev pub InShifts : Option ℕ → Type 0
@@ -68,7 +69,8 @@ pub record IsShared (values : List ℤ) (shared : Shared) : Type 0 where
 abbrev pub raise_of : Shared → Shared → Option Shared
 raise_of low high =
     let raised = high.greatest * 10 ^ (high.shift - low.shift) in
-    if nat_lt raised (10 ^ 18) then Some (record { shift = low.shift; greatest = max raised low.greatest }) else None
+    if nat_lt raised (10 ^ 18)
+    then Some (record { shift = low.shift; greatest = max raised low.greatest }) else None
 
 -- what is shared by some values and others
 abbrev pub join_of : Shared → Shared → Option Shared

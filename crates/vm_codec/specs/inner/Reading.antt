@@ -13,7 +13,8 @@ groups_at zero bytes = None
 groups_at (suc more) [] = None
 groups_at (suc more) (byte ∷ bytes) =
     if nat_lt byte 128 then Some (byte, bytes)
-    else option_and_then (λ r. if r.0 == 0 then None else Some (byte - 128 + 128 * r.0, r.1)) (groups_at more bytes)
+    else option_and_then (λ r. if r.0 == 0 then None else Some (byte - 128 + 128 * r.0, r.1))
+    (groups_at more bytes)
 
 -- a number that was read, where it is below 2^64
 abbrev pub in_64_bits : Option (ℕ × List ℕ) → Option (ℕ × List ℕ)
@@ -27,7 +28,8 @@ number_at bytes = in_64_bits (groups_at 10 bytes)
 -- and its first group counts `scale`
 abbrev pub behind : ℕ → ℕ → ℕ → Option (ℕ × List ℕ) → Option (ℕ × List ℕ)
 behind place below scale rest =
-    option_and_then (λ r. if nat_lt 0 place && r.0 == 0 then None else Some (below + scale * r.0, r.1)) rest
+    option_and_then
+    (λ r. if nat_lt 0 place && r.0 == 0 then None else Some (below + scale * r.0, r.1)) rest
 
 -- a value, where it is in bounds
 abbrev pub bounded : ℤ → Option ℤ
@@ -37,7 +39,9 @@ bounded value = if in_bounds value then Some value else None
 -- lies above `lean`
 unfoldable pub next_at : ℤ → ℤ → List ℕ → Option (ℤ × List ℕ)
 next_at value lean bytes =
-    option_and_then (λ r. option_map (λ next. (next, r.1)) (bounded (value +ℤ lean +ℤ unzigzag r.0))) (number_at bytes)
+    option_and_then
+    (λ r. option_map (λ next. (next, r.1)) (bounded (value +ℤ lean +ℤ unzigzag r.0)))
+    (number_at bytes)
 
 -- what the integer after a difference is counted from
 abbrev pub lean_after : Coding → ℤ → ℤ
@@ -51,7 +55,8 @@ onto value (Ok r) = Ok (value ∷ r.0, r.1)
 onto value (Err left) = Err left
 
 -- the next value and those that are read after it; without one the reading breaks
-abbrev pub then_more : Option (ℤ × List ℕ) → ℕ → (ℤ → List ℕ → Result (List ℤ × List ℕ) ℕ) → Result (List ℤ × List ℕ) ℕ
+abbrev pub then_more : Option (ℤ × List ℕ) → ℕ → (ℤ → List ℕ → Result (List ℤ × List ℕ) ℕ)
+    → Result (List ℤ × List ℕ) ℕ
 then_more None left read = Err left
 then_more (Some next) left read = onto next.0 (read next.0 next.1)
 
@@ -67,7 +72,8 @@ values_at coding (suc more) value lean bytes =
 unfoldable pub steps_from : ℕ → ℤ → ℤ → Option (List ℤ)
 steps_from zero value step = Some []
 steps_from (suc more) value step =
-    option_and_then (λ next. option_map (λ others. next ∷ others) (steps_from more next step)) (bounded (value +ℤ step))
+    option_and_then (λ next. option_map (λ others. next ∷ others) (steps_from more next step))
+    (bounded (value +ℤ step))
 
 -- such values and the bytes after their integer, or a break
 abbrev pub steps_then : Option (List ℤ) → List ℕ → ℕ → Result (List ℤ × List ℕ) ℕ

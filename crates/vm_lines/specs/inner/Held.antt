@@ -12,7 +12,8 @@ pub record Bytes : Type 0 where
   pub room : ℕ
 
 -- n bytes of a source came behind those that were held
-pub record HasRead (before now : List ℕ) (n : ℕ) (left_before left_now : Option (List ℕ)) : Type 0 where
+pub record HasRead (before now : List ℕ) (n : ℕ) (left_before left_now : Option (List ℕ)) :
+    Type 0 where
   pub piece : List ℕ
   pub many : length piece ≡ n
   pub behind : now ≡ before ++ piece

@@ -7,7 +7,8 @@ use Rattle.vm_lines.specs.declared.step.Step.{Step}
 use Rattle.vm_lines.specs.declared.step.Step.TheVariants.{Line, TooLong, End}
 
 -- n bytes of a source came behind those ahead
-pub record Takes (before now : Reading) (n : ℕ) (left_before left_now : Option (List ℕ)) : Type 0 where
+pub record Takes (before now : Reading) (n : ℕ) (left_before left_now : Option (List ℕ)) :
+    Type 0 where
   pub piece : List ℕ
   pub many : length piece ≡ n
   pub behind : now.ahead ≡ before.ahead ++ piece

@@ -43,10 +43,12 @@ pub record IsPut (samples : List Stamped) (before after : List ℕ) (entry : Ent
   pub say : AllByRecursion SaysSamples blocks
   pub order : IsUp is_in_order (samples_in blocks)
   pub bytes : after ≡ before ++ blocks_bytes blocks
-  pub said : (labels : List Pair) → entry ≡ entry_of (length before) (record { labels = labels; blocks = blocks })
+  pub said : (labels : List Pair)
+      → entry ≡ entry_of (length before) (record { labels = labels; blocks = blocks })
 
 -- the blocks of series stand behind some bytes, and an entry for each says so
-pub record ArePut (series : List Series) (before after : List ℕ) (entries : List Entry) : Type 0 where
+pub record ArePut (series : List Series) (before after : List ℕ) (entries : List Entry) :
+    Type 0 where
   pub all : List Stored
   pub cut : AreCutUp series all
   pub stored : AllByRecursion IsStored all
@@ -57,7 +59,8 @@ pub record ArePut (series : List Series) (before after : List ℕ) (entries : Li
 
 abbrev pub footer_bytes : Footer → List ℕ
 footer_bytes f =
-    flat_map (to_be_bytes w64) (f.entries_at ∷ f.table_at ∷ f.postings_at ∷ f.series ∷ f.rows ∷ []) ++ end_mark
+    flat_map (to_be_bytes w64) (f.entries_at ∷ f.table_at ∷ f.postings_at ∷ f.series ∷ f.rows ∷ [])
+    ++ end_mark
 
 -- the footer of so many series with these entries and label sets, behind so many bytes
 abbrev pub footer_behind : ℕ → List Entry → List (List Pair) → ℕ → ℕ → Footer

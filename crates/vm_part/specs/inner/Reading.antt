@@ -18,24 +18,29 @@ use Rattle.vm_part.specs.declared.footer.Footer.{Footer}
 
 -- the rules of the front and of the footer
 abbrev pub front_rules : ℕ → List ℕ → List (ℕ × Bool)
-front_rules at bytes = (0, is_whole 0 bytes && bytes_eq (take 8 bytes) front_mark) ∷ footer_rules at bytes
+front_rules at bytes =
+    (0, is_whole 0 bytes && bytes_eq (take 8 bytes) front_mark) ∷ footer_rules at bytes
 
 -- the rules of the footer at a place, one by one
 abbrev pub is_entries_place : ℕ → List ℕ → Bool
-is_entries_place at bytes = is_whole at bytes && nat_le 8 (number_at at bytes) && nat_le (number_at at bytes) at
+is_entries_place at bytes =
+    is_whole at bytes && nat_le 8 (number_at at bytes) && nat_le (number_at at bytes) at
 
 abbrev pub is_table_place : ℕ → List ℕ → Bool
 is_table_place at bytes =
     is_whole (at + 8) bytes && nat_lt (number_at at bytes) (number_at (at + 8) bytes)
-    && (number_at (at + 8) bytes - number_at at bytes) % 40 == 0 && nat_le (number_at (at + 8) bytes) at
+    && (number_at (at + 8) bytes - number_at at bytes) % 40 == 0
+    && nat_le (number_at (at + 8) bytes) at
 
 abbrev pub is_postings_place : ℕ → List ℕ → Bool
 is_postings_place at bytes =
-    is_whole (at + 16) bytes && nat_le (number_at (at + 8) bytes) (number_at (at + 16) bytes) && nat_le (number_at (at + 16) bytes) at
+    is_whole (at + 16) bytes && nat_le (number_at (at + 8) bytes) (number_at (at + 16) bytes)
+    && nat_le (number_at (at + 16) bytes) at
 
 abbrev pub is_series_count : ℕ → List ℕ → Bool
 is_series_count at bytes =
-    is_whole (at + 24) bytes && number_at (at + 24) bytes * 40 == number_at (at + 8) bytes - number_at at bytes
+    is_whole (at + 24) bytes && number_at (at + 24) bytes * 40 == number_at (at + 8) bytes
+    - number_at at bytes
 
 -- a mark stands at a place
 abbrev pub has_mark : ℕ → List ℕ → List ℕ → Bool
@@ -66,7 +71,8 @@ IsFaultOf rules Memory = ⊤
 -- the places where the blocks of series begin and end don't fall
 abbrev pub PlacesRise : (entries : ℕ) → List Entry → Type 0
 PlacesRise entries [] = ⊤
-PlacesRise entries (e ∷ more) = (e.start ≤ end_of entries more) × (end_of entries more ≤ entries) × PlacesRise entries more
+PlacesRise entries (e ∷ more) = (e.start ≤ end_of entries more) × (end_of entries more ≤ entries)
+    × PlacesRise entries more
 
 -- ---- the index
 
@@ -74,8 +80,10 @@ PlacesRise entries (e ∷ more) = (e.start ≤ end_of entries more) × (end_of e
 abbrev pub IsIndexFault : (at : ℕ) → Footer → List ℕ → ReadFault → Type 0
 IsIndexFault at f bytes Memory = ⊤
 IsIndexFault at f bytes (Broken place) =
-    ((n : ℕ) × (place ≡ f.table_at + n) × IsRefused f.series (table_in f bytes) (postings_in at f bytes) (BrokenTable n))
-    ⊎ ((n : ℕ) × (place ≡ f.postings_at + n) × IsRefused f.series (table_in f bytes) (postings_in at f bytes) (BrokenPostings n))
+    ((n : ℕ) × (place ≡ f.table_at + n)
+    × IsRefused f.series (table_in f bytes) (postings_in at f bytes) (BrokenTable n))
+    ⊎ ((n : ℕ) × (place ≡ f.postings_at + n)
+    × IsRefused f.series (table_in f bytes) (postings_in at f bytes) (BrokenPostings n))
 
 -- ---- blocks
 
@@ -105,7 +113,8 @@ pub record HasHeader (rest : List ℕ) (h : BlockHeader) : Type 0 where
 
 -- no header stands there, or one that breaks its rules
 abbrev pub NoHeader : List ℕ → ℕ → Type 0
-NoHeader rest at = ((length rest < 40) × (at ≡ 0)) ⊎ ((40 ≤ length rest) × (first_broken (field_rules (take 40 rest)) ≡ Some at))
+NoHeader rest at = ((length rest < 40) × (at ≡ 0))
+    ⊎ ((40 ≤ length rest) × (first_broken (field_rules (take 40 rest)) ≡ Some at))
 
 -- why a body is refused
 abbrev pub IsBodyFault : BlockHeader → List ℕ → ReadFault → Type 0
@@ -124,7 +133,8 @@ pub record Joins (room : ℕ) (e : Entry) (rest : List ℕ) (old new : Seen) (le
 
 -- why no block joins those that were seen
 abbrev pub IsBlockFault : (room : ℕ) → Entry → Seen → (rest : List ℕ) → ReadFault → Type 0
-IsBlockFault room e seen rest (Broken at) = (at ≤ length rest) × ((before : List Block) → Saw before seen → BreaksBehind room e before rest at)
+IsBlockFault room e seen rest (Broken at) = (at ≤ length rest)
+    × ((before : List Block) → Saw before seen → BreaksBehind room e before rest at)
 IsBlockFault room e seen rest Memory = ⊤
 
 -- all blocks of a series stand there

@@ -15,10 +15,13 @@ pub record IsReadFrom (regex : Regex) (text : List ℕ) : Type 0 where
 -- the expression finds in whole values what the pattern means
 abbrev pub IsMeant : Regex → List ℕ → Type 0
 IsMeant regex text =
-    ((value : List ℕ) → All (λ byte. byte < 256) value → is_some (find_str (regex_pattern regex) value 0) ≡ is_whole_match text value)
+    ((value : List ℕ) → All (λ byte. byte < 256) value
+    → is_some (find_str (regex_pattern regex) value 0) ≡ is_whole_match text value)
     × ((value : List ℕ) → All (λ byte. byte < 256) value →
-    option_map (group_texts value) (find_str (regex_pattern regex) value 0) ≡ whole_groups text value)
+    option_map (group_texts value) (find_str (regex_pattern regex) value 0)
+    ≡ whole_groups text value)
 
 -- the texts of these groups
 abbrev pub texts_of : Captures → List ℕ → List (List ℕ)
-texts_of captures groups = map (λ n. in_span (captures_haystack captures) (captures_span captures n)) groups
+texts_of captures groups =
+    map (λ n. in_span (captures_haystack captures) (captures_span captures n)) groups

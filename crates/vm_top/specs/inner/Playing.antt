@@ -41,7 +41,8 @@ pub record BodyOf : Type 0 where
 -- the body of these lines, with more to come
 pub record Gathers (body : BodyOf) (passed : List (List ℕ)) : Type 0 where
   pub batches : (more : List (List Row))
-      → batches_of (map or_none (said body.format body.time passed) ++ more) ≡ with_more body.parted more
+      → batches_of (map or_none (said body.format body.time passed) ++ more)
+      ≡ with_more body.parted more
   pub skips : body.skipped ≡ skipped (said body.format body.time passed)
   pub few : length body.parted.held < enough
 
@@ -49,18 +50,21 @@ pub record Gathers (body : BodyOf) (passed : List (List ℕ)) : Type 0 where
 pub record Adds (rows : Option (List Row)) (before after : BodyOf) : Type 0 where
   pub format : after.format ≡ before.format
   pub time : after.time ≡ before.time
-  pub comes : (more : List (List Row)) → with_more before.parted (or_none rows ∷ more) ≡ with_more after.parted more
+  pub comes : (more : List (List Row))
+      → with_more before.parted (or_none rows ∷ more) ≡ with_more after.parted more
   pub skips : after.skipped ≡ before.skipped + (if is_none rows then 1 else 0)
   pub few : length after.parted.held < enough
 
 -- lines were passed, each was counted, and none comes again
-pub record Passes (passed : List (List ℕ)) (before now : Place) (left_before left_now : Option (List ℕ)) : Type 0 where
+pub record Passes (passed : List (List ℕ)) (before now : Place)
+    (left_before left_now : Option (List ℕ)) : Type 0 where
   pub through : Through (unread before left_before) passed (unread now left_now)
   pub counted : now.number ≡ before.number + length passed
   pub nearer : to_go now.reading ≤ to_go before.reading
 
 -- a body was read with the line that ends it
-pub record IsWhole (format : Format) (time : ℕ) (body : BodyOf) (before now : Place) (left_before left_now : Option (List ℕ)) : Type 0 where
+pub record IsWhole (format : Format) (time : ℕ) (body : BodyOf) (before now : Place)
+    (left_before left_now : Option (List ℕ)) : Type 0 where
   pub passed : List (List ℕ)
   pub within : AreWithin passed
   pub gathers : Gathers body passed
@@ -73,32 +77,37 @@ abbrev pub IsCut : Place → Option (List ℕ) → Type 0
 IsCut before left_before = Told (unread before left_before) (λ bytes. AreWithin (lines bytes))
 
 -- a body was read, or the input ended within it
-abbrev pub ReadsBody : Format → ℕ → Option BodyOf → Place → Place → Option (List ℕ) → Option (List ℕ) → Type 0
+abbrev pub ReadsBody : Format → ℕ → Option BodyOf → Place → Place → Option (List ℕ)
+    → Option (List ℕ) → Type 0
 ReadsBody format time None before now left_before left_now = IsCut before left_before
-ReadsBody format time (Some body) before now left_before left_now = IsWhole format time body before now left_before left_now
+ReadsBody format time (Some body) before now left_before left_now =
+    IsWhole format time body before now left_before left_now
 
 -- a command was done, whose body was read, and a text is what it prints
-pub record PlaysCommand (command : Command) (before now : State) (at after : Place) (left_at left_after : Option (List ℕ)) (text : List ℕ) : Type 0 where
+pub record PlaysCommand (command : Command) (before now : State) (at after : Place)
+    (left_at left_after : Option (List ℕ)) (text : List ℕ) : Type 0 where
   pub body : List (List ℕ)
   pub has : HasBody command body
   pub does : Does command body before now text
   pub passes : Passes (lines_after command body) at after left_at left_after
 
 -- the command of a line was done
-pub record PlaysLine (line : List ℕ) (before now : State) (at after : Place) (left_at left_after : Option (List ℕ)) (text : List ℕ) : Type 0 where
+pub record PlaysLine (line : List ℕ) (before now : State) (at after : Place)
+    (left_at left_after : Option (List ℕ)) (text : List ℕ) : Type 0 where
   pub command : Command
   pub says : command_of line ≡ Some command
   pub plays : PlaysCommand command before now at after left_at left_after text
 
--- a fault of a line that says this command, if it says one: where it is that of the script, the line is
--- outside the grammar, and has the number of the place
+-- a fault of a line that says this command, if it says one: where it is that of the script, the
+-- line is outside the grammar, and has the number of the place
 abbrev pub IsBrokenBy : Fault → Option Command → Place → Option (List ℕ) → Type 0
 IsBrokenBy (BadLine number) command at left_at =
     (number ≡ at.number) × Told (unread at left_at) (λ bytes. IsCutOff command (lines bytes))
 IsBrokenBy _ command at left_at = ⊤
 
 -- of the body of an import whole lines came that don't end it, and then no more whole line
-pub record IsCutShort (command : Option Command) (at : Place) (left_at left_after : Option (List ℕ)) : Type 0 where
+pub record IsCutShort (command : Option Command) (at : Place)
+    (left_at left_after : Option (List ℕ)) : Type 0 where
   pub format : Format
   pub time : ℕ
   pub imports : command ≡ Some (Import format time)
@@ -123,7 +132,8 @@ CanPlay Output = ⊥
 CanPlay _ = ⊤
 
 -- the commands so far were done, and what they print was written
-pub record HasPlayed (machine : State) (place : Place) (start left before after : Option (List ℕ)) : Type 0 where
+pub record HasPlayed (machine : State) (place : Place) (start left before after : Option (List ℕ)) :
+    Type 0 where
   pub entries : List Entry
   pub are : AllByRecursion IsEntry entries
   pub texts : List ℕ
@@ -133,14 +143,16 @@ pub record HasPlayed (machine : State) (place : Place) (start left before after 
   pub written : Takes before texts after
 
 -- how a script ends over an input, of which so much is left, and what was written by then
-abbrev pub Ends : Result Unit Fault → Option (List ℕ) → Option (List ℕ) → Option (List ℕ) → List ℕ → Type 0
+abbrev pub Ends : Result Unit Fault → Option (List ℕ) → Option (List ℕ) → Option (List ℕ) → List ℕ
+    → Type 0
 Ends (Ok done) left before after input = IsAnswered replay_promise 0 before after input
 Ends (Err Output) left before after input = IsAnsweredInPart replay_promise 0 before after input
 Ends (Err (BadLine number)) left before after input =
     IsBadAt number (lines input) × Wrote (λ whole. IsPlayedToBad (lines whole)) before after input
 Ends (Err InputTooLong) left before after input =
     IsTooLong input × Told left (λ rest. Wrote (IsPlayedBefore rest) before after input)
-Ends (Err Input) left before after input = Told left (λ rest. Wrote (IsPlayedBefore rest) before after input)
+Ends (Err Input) left before after input =
+    Told left (λ rest. Wrote (IsPlayedBefore rest) before after input)
 Ends (Err Memory) left before after input =
     Wrote (λ whole text. (rest : List ℕ) × IsPlayedBefore rest whole text) before after input
 Ends (Err Usage) left before after input = ⊥
@@ -151,7 +163,8 @@ Prints (response.Accepted batches rows skipped) text = text ≡ accepted_line ba
 Prints (response.Begun run) text = text ≡ codes "run " ++ decimal run ++ codes "\n"
 Prints response.Read text = text ≡ codes "read\n"
 Prints response.Complete text = text ≡ codes "complete\n"
-Prints (response.Values time values) text = (text ≡ reply time values) ⊎ (text ≡ refused_line OutOfMemory)
+Prints (response.Values time values) text = (text ≡ reply time values)
+    ⊎ (text ≡ refused_line OutOfMemory)
 Prints response.Closed text = text ≡ codes "closed\n"
 Prints (response.BadQuery fault) text = text ≡ bad_query_line fault
 Prints (response.Refused why) text = text ≡ refused_line why
@@ -163,5 +176,6 @@ IsInRange _ = ⊤
 
 -- what is written of a response: all of its text, or a first part of it where the output failed
 abbrev pub Writes : Response → Result Unit Fault → Option (List ℕ) → Option (List ℕ) → Type 0
-Writes given result before after = (text : List ℕ) × Prints given text × OnOk result (Takes before text after)
+Writes given result before after = (text : List ℕ) × Prints given text
+    × OnOk result (Takes before text after)
     × OnErr result ((n : ℕ) × (n ≤ length text) × Takes before (take n text) after)

@@ -29,7 +29,8 @@ IsLineOf TooLong shown line = is_too_long line ≡ true
 IsLineOf End shown line = ⊥
 
 -- the next line was come to
-pub record HasLine (step : Step) (before after : Place) (left_before left_after : Option (List ℕ)) : Type 0 where
+pub record HasLine (step : Step) (before after : Place) (left_before left_after : Option (List ℕ)) :
+    Type 0 where
   pub line : List ℕ
   pub is : IsLineOf step after.reading.line line
   pub first : IsFirstLine (unread before left_before) line (unread after left_after)
@@ -45,11 +46,13 @@ pub record IsAtEnd (before after : Place) (left_before left_after : Option (List
 
 abbrev pub Comes : Option Step → Place → Place → Option (List ℕ) → Option (List ℕ) → Type 0
 Comes None before after left_before left_after = IsAtEnd before after left_before left_after
-Comes (Some step) before after left_before left_after = HasLine step before after left_before left_after
+Comes (Some step) before after left_before left_after =
+    HasLine step before after left_before left_after
 
 -- a place of which nothing was read
 abbrev pub first_place : Place
-first_place = record { reading = record { line = []; ahead = []; taken = 0; ended = false }; number = 0 }
+first_place =
+    record { reading = record { line = []; ahead = []; taken = 0; ended = false }; number = 0 }
 
 -- bytes that whole lines have: none, some that a line feed ends, or all up to the end of the input
 abbrev pub AreWhole : List ℕ → Bool → Type 0

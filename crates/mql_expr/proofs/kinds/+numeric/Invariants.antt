@@ -4,4 +4,5 @@ use Rattle.mql_expr.specs.Tree.{trees_in}
 use Rattle.mql_expr.proofs.kinds.+numeric.Given as goal
 
 abbrev pub invariant-are_numeric-loop-expr : goal.invariant-are_numeric-loop-expr
-invariant-are_numeric-loop-expr l = are_numeric (trees_in l.exprs) ≡ are_numeric (trees_in (drop l.expr-index l.exprs))
+invariant-are_numeric-loop-expr l =
+    are_numeric (trees_in l.exprs) ≡ are_numeric (trees_in (drop l.expr-index l.exprs))

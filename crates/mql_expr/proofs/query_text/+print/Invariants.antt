@@ -5,7 +5,9 @@ use Rattle.mql_expr.proofs.PartedLaws.{comma, binding_of}
 use Rattle.mql_expr.proofs.query_text.+print.Given as goal
 
 abbrev pub invariant-put_args-loop-index : goal.invariant-put_args-loop-index
-invariant-put_args-loop-index l = l.out.items ≡ l.fn.out.items ++ 40 ∷ text_of (parted comma (map (λ e. placed 1 (tree e)) (take l.index l.args)))
+invariant-put_args-loop-index l = l.out.items ≡ l.fn.out.items
+    ++ 40 ∷ text_of (parted comma (map (λ e. placed 1 (tree e)) (take l.index l.args)))
 
 abbrev pub invariant-put_templates-loop-index : goal.invariant-put_templates-loop-index
-invariant-put_templates-loop-index l = l.out.items ≡ l.fn.out.items ++ 40 ∷ text_of (parted comma (map binding_of (take l.index l.templates)))
+invariant-put_templates-loop-index l = l.out.items ≡ l.fn.out.items
+    ++ 40 ∷ text_of (parted comma (map binding_of (take l.index l.templates)))

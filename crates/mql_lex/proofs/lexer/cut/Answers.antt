@@ -8,6 +8,7 @@ pieces-preserved c =
     let len = rw take_rest at c.in-Some.ensures.within in
     record {
       within = omega (arith, len, length-drop c.pieces.at c.args.text.now);
-      read = next_piece c.args.text.now c.pieces.found c.push_piece.new.found c.pieces.at c.in-Some.piece c.in-Some.len
+      read = next_piece c.args.text.now c.pieces.found c.push_piece.new.found c.pieces.at
+          c.in-Some.piece c.in-Some.len
           c.pieces.invariant.read (sym c.in-Some.ensures.value) c.in_ok-push_piece.ensures;
     }

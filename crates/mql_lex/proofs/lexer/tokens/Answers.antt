@@ -8,16 +8,21 @@ pub returns-then-bytes-gt-MAX_QUERY_TEXT-clause-value :
     goal.returns-then-bytes-gt-MAX_QUERY_TEXT-clause-value
 returns-then-bytes-gt-MAX_QUERY_TEXT-clause-value c =
     let same = c.as_bytes-bytes.ensures.value in
-    reading_long c.args.text.now (subst (λ t. 16384 < length t) same c.if-bytes-gt-MAX_QUERY_TEXT.true)
+    reading_long c.args.text.now
+    (subst (λ t. 16384 < length t) same c.if-bytes-gt-MAX_QUERY_TEXT.true)
     ∙ ap (λ t. Err (TooLong (length t))) (sym same)
 
 pub returns-clause-tokens : goal.returns-clause-tokens
 returns-clause-tokens c =
-    let cut = rw c.as_bytes-bytes.ensures.value at c.cut.ensures in given_tokens c.args.text.now c.cut.result cut
+    let cut =
+    rw c.as_bytes-bytes.ensures.value at c.cut.ensures in given_tokens c.args.text.now
+    c.cut.result cut
 
 pub returns-clause-bad_token : goal.returns-clause-bad_token
 returns-clause-bad_token c at is =
-    let cut = rw c.as_bytes-bytes.ensures.value at c.cut.ensures in given_bad c.args.text.now c.cut.result at cut is
+    let cut =
+    rw c.as_bytes-bytes.ensures.value at c.cut.ensures in given_bad c.args.text.now c.cut.result
+    at cut is
 
 pub returns-clause-value : goal.returns-clause-value
 returns-clause-value c =

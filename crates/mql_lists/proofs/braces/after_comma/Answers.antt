@@ -6,4 +6,5 @@ use Rattle.mql_lists.proofs.braces.after_comma.Goals as goal
 
 pub name_text-requires-clause-name : goal.name_text-requires-clause-name
 name_text-requires-clause-name c =
-    label_says (word_of c.args.text.now c.args.token) Either (sym c.requires.role ∙ c.in-Either.is) refl
+    label_says (word_of c.args.text.now c.args.token) Either (sym c.requires.role ∙ c.in-Either.is)
+    refl

@@ -16,18 +16,24 @@ returns-then-is_word c =
     let rows = c.args.rows.now in
     let i = c.loop-word.word-index in
     let is = str_eq_ignore_ascii_case c.args.name.now in
-    let test : is (view (get_or rows i none)).0 ≡ true = sym c.is_word.ensures ∙ c.if-is_word.true in
-    λ other. sym (c.loop-word.invariant other ∙ row_at view rows i none is other c.loop-word-test.true ∙ rw test refl)
+    let test : is (view (get_or rows i none)).0 ≡ true = sym c.is_word.ensures
+    ∙ c.if-is_word.true in
+    λ other.
+    sym (c.loop-word.invariant other ∙ row_at view rows i none is other c.loop-word-test.true
+    ∙ rw test refl)
 
 pub loop-word-preserved : goal.loop-word-preserved
 loop-word-preserved c =
     let rows = c.args.rows.now in
     let i = c.loop-word.word-index in
     let is = str_eq_ignore_ascii_case c.args.name.now in
-    let test : is (view (get_or rows i none)).0 ≡ false = sym c.is_word.ensures ∙ c.if-is_word.false in
-    λ other. c.loop-word.invariant other ∙ row_at view rows i none is other c.loop-word-test.true ∙ rw test refl
+    let test : is (view (get_or rows i none)).0 ≡ false = sym c.is_word.ensures
+    ∙ c.if-is_word.false in
+    λ other. c.loop-word.invariant other ∙ row_at view rows i none is other c.loop-word-test.true
+    ∙ rw test refl
 
 pub returns : goal.returns
 returns c =
     λ other. sym (c.loop-word.invariant other
-    ∙ rows_end view c.args.rows.now c.loop-word.word-index (str_eq_ignore_ascii_case c.args.name.now) other c.loop-word-test.false)
+    ∙ rows_end view c.args.rows.now c.loop-word.word-index
+    (str_eq_ignore_ascii_case c.args.name.now) other c.loop-word-test.false)

@@ -7,4 +7,5 @@ use Rattle.mql_lists.proofs.class.reserved_class.Given as goal
 abbrev pub invariant-loop-word : goal.invariant-loop-word
 invariant-loop-word l = (other : ClassOf)
     → class_in (map (λ row. (row.0.now, row.1)) l.fn.rows) (str_eq_ignore_ascii_case l.name) other
-    ≡ class_in (map (λ row. (row.0.now, row.1)) (drop l.word-index l.rows)) (str_eq_ignore_ascii_case l.name) other
+    ≡ class_in (map (λ row. (row.0.now, row.1)) (drop l.word-index l.rows))
+    (str_eq_ignore_ascii_case l.name) other

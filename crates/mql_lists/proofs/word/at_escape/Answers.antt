@@ -3,7 +3,8 @@ use Rattle.mql_lists.proofs.TextLaws.{no_slash, first_slash}
 use Rattle.mql_lists.proofs.word.at_escape.Goals as goal
 
 pub returns-in-None-clause-plain : goal.returns-in-None-clause-plain
-returns-in-None-clause-plain c = no_slash c.args.text.now (c.in-None.ensures.byte (omega arith) (λ w o is. is))
+returns-in-None-clause-plain c =
+    no_slash c.args.text.now (c.in-None.ensures.byte (omega arith) (λ w o is. is))
 
 pub returns-in-Some-clause-found : goal.returns-in-Some-clause-found
 returns-in-Some-clause-found c =

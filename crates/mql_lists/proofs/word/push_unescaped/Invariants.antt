@@ -4,7 +4,8 @@ use Rattle.mql_lists.proofs.word.push_unescaped.Given as goal
 
 abbrev pub invariant-escapes : goal.invariant-escapes
 invariant-escapes l = record {
-  read : string_bytes l.text ++ unescaped false l.rest ≡ string_bytes l.fn.text ++ unescaped true l.fn.escaped;
+  read : string_bytes l.text ++ unescaped false l.rest ≡ string_bytes l.fn.text
+      ++ unescaped true l.fn.escaped;
   utf8 : IsUtf8 l.rest;
 }
 

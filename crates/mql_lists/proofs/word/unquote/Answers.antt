@@ -14,7 +14,11 @@ range-requires-clause-end_boundary c =
 
 pub returns : goal.returns
 returns c =
-    let parts = inner c.args.text.now c.args.token c.utf8.text c.requires.stands c.requires.quoted in
-    let same : unescaped false c.range.result.now ≡ value_of (slice_of c.args.text.now c.args.token) =
-    ap (unescaped false) (c.range.ensures.value ∙ sym (between_is c.args.text.now c.args.token c.requires.stands.within parts.long)) in
+    let parts =
+    inner c.args.text.now c.args.token c.utf8.text c.requires.stands c.requires.quoted in
+    let same : unescaped false c.range.result.now
+    ≡ value_of (slice_of c.args.text.now c.args.token) =
+    ap (unescaped false)
+    (c.range.ensures.value
+    ∙ sym (between_is c.args.text.now c.args.token c.requires.stands.within parts.long)) in
     subst (λ t. IfOk c.unescape.result (λ value. value ≡ t)) same c.unescape.ensures

@@ -13,8 +13,11 @@ returns-in_default c = λ len inside.
     let fs = the_frames (stack_of c.args.stack.now) in
     let j = the_joint c.args.pending in
     let steps =
-    subst (λ m. Steps c.within.result (stack_of c.within.new.stack) (by_wanted len (in_operator j m ∷ fs) w (class_of_word w)))
+    subst (λ m.
+    Steps c.within.result (stack_of c.within.new.stack)
+    (by_wanted len (in_operator j m ∷ fs) w (class_of_word w)))
     c.all_labels-matching.ensures (c.within.ensures len inside) in
     subst (Steps c.within.result (stack_of c.within.new.stack))
-    (sym (compared_falls fs len j w (class_of_word w) (λ kind is. c.in_default.not-Pairing kind (c.class_of.ensures ∙ is))))
+    (sym (compared_falls fs len j w (class_of_word w)
+    (λ kind is. c.in_default.not-Pairing kind (c.class_of.ensures ∙ is))))
     steps

@@ -10,6 +10,7 @@ pub returns-in_default : goal.returns-in_default
 returns-in_default c = λ len inside.
     let w = word_of c.args.text.now c.args.token in
     subst (Steps c.by_compared.result (stack_of c.by_compared.new.stack))
-    (sym (operated_falls (the_frames (stack_of c.args.stack.now)) len (the_joint c.args.pending) w (class_of_word w)
+    (sym (operated_falls (the_frames (stack_of c.args.stack.now)) len (the_joint c.args.pending) w
+    (class_of_word w)
     (λ is. c.in_default.not-Truth (c.class_of.ensures ∙ is))))
     (c.by_compared.ensures len inside)

@@ -13,9 +13,12 @@ returns-in_default c = λ len inside.
     let fs = the_frames (stack_of c.args.stack.now) in
     let j = the_joint c.args.paired.pending in
     let steps =
-    subst (λ m. Steps c.within.result (stack_of c.within.new.stack) (by_wanted len (in_operator j m ∷ fs) w (class_of_word w)))
+    subst (λ m.
+    Steps c.within.result (stack_of c.within.new.stack)
+    (by_wanted len (in_operator j m ∷ fs) w (class_of_word w)))
     c.modifiers-matching.ensures (c.within.ensures len inside) in
     subst (Steps c.within.result (stack_of c.within.new.stack))
-    (sym (many_falls fs len j c.args.paired.kind c.args.paired.names c.args.paired.many w (class_of_word w)
+    (sym (many_falls fs len j c.args.paired.kind c.args.paired.names c.args.paired.many w
+    (class_of_word w)
     (λ is. c.in_default.not-OpenRound (c.class_of.ensures ∙ is))))
     steps

@@ -8,6 +8,7 @@ use Rattle.mql_parse.proofs.operand.by_primary.Goals as goal
 pub returns-in_default : goal.returns-in_default
 returns-in_default c =
     subst (Steps c.go_on.result (stack_of c.go_on.new.stack))
-    (sym (primary_falls (the_frames (stack_of c.args.stack.now)) (tree c.args.expr) c.args.here.at c.args.here.class
+    (sym (primary_falls (the_frames (stack_of c.args.stack.now)) (tree c.args.expr) c.args.here.at
+    c.args.here.class
     c.in_default.not-OpenSquare c.in_default.not-Offset))
     c.go_on.ensures

@@ -14,6 +14,11 @@ returns-in_ok-progress-in-InParams c = λ len inside.
     let scope = the_scope c.in-InParams.scope in
     let head = the_head c.in-InParams.head in
     let steps =
-    subst (λ p. Steps c.behind_params.result opens (within_part (λ s. at fs (in_params scope head s)) (λ ps. at fs (template_headed scope head ps)) p))
+    subst (λ p.
+    Steps c.behind_params.result opens
+    (within_part (λ s. at fs (in_params scope head s))
+    (λ ps. at fs (template_headed scope head ps)) p))
     c.in_ok-progress-in-InParams.ensures (c.behind_params.ensures opens) in
-    subst (λ state. Steps c.behind_params.result opens (by len fs (the_templating state) w (class_of_word w))) (sym c.in-InParams.is) steps
+    subst (λ state.
+    Steps c.behind_params.result opens (by len fs (the_templating state) w (class_of_word w)))
+    (sym c.in-InParams.is) steps

@@ -4,7 +4,10 @@ use Rattle.mql_parse.proofs.WordKinds.{identifier_kind, quoted_kind}
 use Rattle.mql_parse.proofs.wanted.by_nothing.Goals as goal
 
 pub heading-requires-clause-name : goal.heading-requires-clause-name
-heading-requires-clause-name c = identifier_kind (word_of c.args.text.now c.args.token) (sym c.class_of.ensures ∙ c.in-Identifier.is)
+heading-requires-clause-name c =
+    identifier_kind (word_of c.args.text.now c.args.token)
+    (sym c.class_of.ensures ∙ c.in-Identifier.is)
 
 pub unquote-requires-clause-quoted : goal.unquote-requires-clause-quoted
-unquote-requires-clause-quoted c = quoted_kind (word_of c.args.text.now c.args.token) (sym c.class_of.ensures ∙ c.in-Quoted.is)
+unquote-requires-clause-quoted c =
+    quoted_kind (word_of c.args.text.now c.args.token) (sym c.class_of.ensures ∙ c.in-Quoted.is)

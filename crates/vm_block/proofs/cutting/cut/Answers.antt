@@ -19,21 +19,27 @@ cuts-preserved c =
     let back = c.split_at.ensures.back in
     let blocks : c.push_copy.new.blocks ≡ c.cuts.blocks ++ take n rest ∷ [] =
     c.in_ok-push_copy.ensures ∙ ap (λ (b : List Stamped). c.cuts.blocks ++ b ∷ []) front in
-    let len : 1 ≤ length (take n rest) = omega (arith, length-take-le n rest said.within, said.some) in
+    let len : 1 ≤ length (take n rest) =
+    omega (arith, length-take-le n rest said.within, said.some) in
     record {
-      whole = ap₂ (λ bs r. joined bs ++ r) blocks back ∙ whole_more c.cuts.blocks rest c.args.samples.now n c.cuts.invariant.whole;
-      each = subst (AllByRecursion Fits) (sym blocks) (each_more Fits c.cuts.blocks (take n rest) c.cuts.invariant.each (len, said.fits));
+      whole = ap₂ (λ bs r. joined bs ++ r) blocks back
+          ∙ whole_more c.cuts.blocks rest c.args.samples.now n c.cuts.invariant.whole;
+      each = subst (AllByRecursion Fits) (sym blocks)
+          (each_more Fits c.cuts.blocks (take n rest) c.cuts.invariant.each (len, said.fits));
       full =
           subst (λ r. FullBefore c.push_copy.new.blocks r) (sym back)
           (subst (λ bs. FullBefore bs (drop n rest)) (sym blocks)
-          (full_more c.cuts.blocks rest n said.some said.within said.longest c.cuts.invariant.full));
+          (full_more c.cuts.blocks rest n said.some said.within said.longest
+          c.cuts.invariant.full));
     }
 
 pub returns : goal.returns
 returns c =
-    let none : c.cuts.rest.now ≡ [] = no_rest c.cuts.rest.now (sym c.is_empty.ensures ∙ c.cuts-test.false) in
+    let none : c.cuts.rest.now ≡ [] =
+    no_rest c.cuts.rest.now (sym c.is_empty.ensures ∙ c.cuts-test.false) in
     record {
-      whole = sym (append-nil (joined c.cuts.blocks)) ∙ ap (λ r. joined c.cuts.blocks ++ r) (sym none) ∙ c.cuts.invariant.whole;
+      whole = sym (append-nil (joined c.cuts.blocks))
+          ∙ ap (λ r. joined c.cuts.blocks ++ r) (sym none) ∙ c.cuts.invariant.whole;
       each = c.cuts.invariant.each;
       full = full_all c.cuts.blocks c.cuts.rest.now c.cuts.invariant.full;
     }

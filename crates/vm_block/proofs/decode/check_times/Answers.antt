@@ -17,7 +17,8 @@ returns-then-times-header-clause-broken c =
     another_end c.args.times.now says (sym c.rise.ensures ∙ c.if-not-rise.false)
     (λ end.
     c.if-times-header.true
-    (ap (of_z w64) (get_or_from_slice_get c.args.times.now (h.count - 1) (pos h.last_time) (pos 0) end)))
+    (ap (of_z w64)
+    (get_or_from_slice_get c.args.times.now (h.count - 1) (pos h.last_time) (pos 0) end)))
     refl
 
 pub returns-clause-last : goal.returns-clause-last

@@ -12,7 +12,8 @@ returns-then-not-are_in_order-clause-broken c =
     let h = c.args.header.now in
     let body = c.args.body.now in
     let samples = c.in_ok-samples.samples in
-    let times : times_of samples ≡ c.in_ok-times.times.items = c.in_ok-samples.ensures.times ∙ c.deref-2.ensures.value in
+    let times : times_of samples ≡ c.in_ok-times.times.items = c.in_ok-samples.ensures.times
+    ∙ c.deref-2.ensures.value in
     values_fall samples c.in_ok-mantissas.mantissas.items
     (subst (SaysTimes h body) (sym times) c.in_ok-times.ensures.times)
     (ap (rise_from (pos 0)) times ∙ c.in_ok-times.ensures.rise)

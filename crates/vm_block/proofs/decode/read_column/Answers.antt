@@ -8,13 +8,21 @@ use Rattle.vm_block.proofs.decode.read_column.Goals as goal
 pub returns-in-Ok-clause-values : goal.returns-in-Ok-clause-values
 returns-in-Ok-clause-values c =
     moved_column c.args.coding _ c.args.first _ c.args.count c.args.column.now _ c.decode.new.into _
-    (to_z-of_z w64 c.args.first c.ranges.first) (omega (arith, c.deref_mut.ensures.len, c.in_ok-values.ensures.len)) refl
-    (sym (take_at c.decode.new.into _ c.in_ok-values.values.len (omega (arith, c.deref_mut.ensures.len))))
+    (to_z-of_z w64 c.args.first c.ranges.first)
+    (omega (arith, c.deref_mut.ensures.len, c.in_ok-values.ensures.len)) refl
+    (sym (take_at c.decode.new.into _ c.in_ok-values.values.len
+    (omega (arith, c.deref_mut.ensures.len))))
     c.in-Ok.ensures.column
 
 pub returns-in-Err-clause-broken : goal.returns-in-Err-clause-broken
 returns-in-Err-clause-broken c =
-    let broken = moved_broken c.args.coding _ c.args.first _ c.args.count c.args.column.now _ c.in-Err.broken.at
-    (to_z-of_z w64 c.args.first c.ranges.first) (omega (arith, c.deref_mut.ensures.len, c.in_ok-values.ensures.len)) refl
-    c.in-Err.ensures.broken in
-    (broken, broken_within c.args.coding c.args.first c.args.count c.args.column.now c.in-Err.broken.at broken)
+    let broken =
+    moved_broken c.args.coding _ c.args.first _ c.args.count c.args.column.now
+    _ c.in-Err.broken.at
+    (to_z-of_z w64 c.args.first c.ranges.first)
+    (omega (arith, c.deref_mut.ensures.len, c.in_ok-values.ensures.len)) refl
+    c.in-Err.ensures.broken in (
+      broken,
+      broken_within c.args.coding c.args.first c.args.count c.args.column.now c.in-Err.broken.at
+          broken,
+    )

@@ -11,6 +11,8 @@ returns-in-Err-Broken-clause-broken c =
     let h = c.args.header.now in
     let rest = drop h.times_len c.args.body.now in
     let fault = rw c.in-Err-Broken.field-0-is at c.in-Err-Broken.ensures.broken in
-    no_mantissas c.args.times.now c.requires.times c.requires.rise c.requires.last c.in-Err-Broken.at
+    no_mantissas c.args.times.now c.requires.times c.requires.rise c.requires.last
+    c.in-Err-Broken.at
     (moved_broken h.values _ h.first_m h.count h.count _ rest c.in-Err-Broken.at
-    (to_z-of_z w64 h.first_m (search rules)) refl (take_all _ rest (omega (arith, length-drop h.times_len c.args.body.now))) fault.0) refl
+    (to_z-of_z w64 h.first_m (search rules)) refl
+    (take_all _ rest (omega (arith, length-drop h.times_len c.args.body.now))) fault.0) refl

@@ -23,11 +23,14 @@ returns-in_default-clause-broken c =
     let ms = c.args.mantissas.now in
     let e = to_z-of_z w16 h.exponent (search rules) in
     let none = rw c.in_default.is at c.in_ok-samples.ensures.none in
-    another_exponent c.args.times.now ms c.requires.times c.requires.rise c.requires.last c.requires.column
-    (and_left (list_all is_sample (map (scaled_by h.exponent) ms)) (int_eq (common_exponent (map (scaled_by h.exponent) ms)) h.exponent)
+    another_exponent c.args.times.now ms c.requires.times c.requires.rise c.requires.last
+    c.requires.column
+    (and_left (list_all is_sample (map (scaled_by h.exponent) ms))
+    (int_eq (common_exponent (map (scaled_by h.exponent) ms)) h.exponent)
     (ap (λ z. list_all is_sample (map (scaled_by z) ms)) (sym e) ∙ none)) refl
 
-pub returns-then-common_exponent-header-clause-broken : goal.returns-then-common_exponent-header-clause-broken
+pub returns-then-common_exponent-header-clause-broken :
+    goal.returns-then-common_exponent-header-clause-broken
 returns-then-common_exponent-header-clause-broken c =
     let h = c.args.header.now in
     let ms = c.args.mantissas.now in
@@ -36,8 +39,10 @@ returns-then-common_exponent-header-clause-broken c =
     let found : c.common_exponent.result ≡ common_exponent (map (scaled_by h.exponent) ms) =
     c.common_exponent.ensures ∙ ap (λ xs. common_exponent (values_of xs)) c.as_slice.ensures
     ∙ ap common_exponent (are.values ∙ ap (λ z. map (scaled_by z) ms) e) in
-    another_exponent c.args.times.now ms c.requires.times c.requires.rise c.requires.last c.requires.column
-    (and_right (list_all is_sample (map (scaled_by h.exponent) ms)) (int_eq (common_exponent (map (scaled_by h.exponent) ms)) h.exponent)
+    another_exponent c.args.times.now ms c.requires.times c.requires.rise c.requires.last
+    c.requires.column
+    (and_right (list_all is_sample (map (scaled_by h.exponent) ms))
+    (int_eq (common_exponent (map (scaled_by h.exponent) ms)) h.exponent)
     (other_exponent (common_exponent (map (scaled_by h.exponent) ms)) h.exponent
     (λ same. c.if-common_exponent-header.true (ap (of_z w16) (found ∙ same))))) refl
 

@@ -12,5 +12,6 @@ returns-in-Err-Broken-clause-broken c =
     let r = ranges h c.requires.header in
     let fault = rw c.in-Err-Broken.field-0-is at c.in-Err-Broken.ensures.broken in
     no_times c.in-Err-Broken.at
-    (moved_broken h.times _ (pos h.first_time) h.count h.count _ (take h.times_len c.args.body.now) c.in-Err-Broken.at
+    (moved_broken h.times _ (pos h.first_time) h.count h.count _ (take h.times_len c.args.body.now)
+    c.in-Err-Broken.at
     (to_z_pos w64 h.first_time (omega (arith, r.first_time))) refl refl fault.0) refl

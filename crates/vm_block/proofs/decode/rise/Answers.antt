@@ -10,7 +10,8 @@ returns-then-not-is_next_time c =
     let item = slice_index_or c.args.times.now c.loop-time.time-index (pos 0) in
     let same = to_z-of_z w64 item (search rules) in
     rise-stuck c.loop-time.time-index last c.args.times.now _ c.loop-time-test.true
-    (ap (λ t. int_le last t && int_lt t (pos (2 ^ 48))) (sym same) ∙ sym c.is_next_time.ensures ∙ c.if-not-is_next_time.true)
+    (ap (λ t. int_le last t && int_lt t (pos (2 ^ 48))) (sym same) ∙ sym c.is_next_time.ensures
+    ∙ c.if-not-is_next_time.true)
     c.loop-time.invariant
 
 pub loop-time-preserved : goal.loop-time-preserved
@@ -19,8 +20,11 @@ loop-time-preserved c =
     let item = slice_index_or c.args.times.now c.loop-time.time-index (pos 0) in
     let same = to_z-of_z w64 item (search rules) in
     rise-more c.loop-time.time-index last _ c.args.times.now _ c.loop-time-test.true
-    (ap (λ t. int_le last t && int_lt t (pos (2 ^ 48))) (sym same) ∙ sym c.is_next_time.ensures ∙ c.if-not-is_next_time.false)
+    (ap (λ t. int_le last t && int_lt t (pos (2 ^ 48))) (sym same) ∙ sym c.is_next_time.ensures
+    ∙ c.if-not-is_next_time.false)
     same c.loop-time.invariant
 
 pub returns : goal.returns
-returns c = rise-done c.loop-time.time-index _ c.args.times.now _ c.loop-time-test.false c.loop-time.invariant
+returns c =
+    rise-done c.loop-time.time-index _ c.args.times.now _ c.loop-time-test.false
+    c.loop-time.invariant

@@ -14,9 +14,11 @@ use Rattle.vm_block.proofs.encode.encode_block.Goals as goal
 
 pub write_column-requires-clause-bounds : goal.write_column-requires-clause-bounds
 write_column-requires-clause-bounds c =
-    subst (All IsInBounds) (sym (c.deref.ensures.value ∙ c.in_ok-times.ensures)) (times_bound c.args.samples.now c.requires.times)
+    subst (All IsInBounds) (sym (c.deref.ensures.value ∙ c.in_ok-times.ensures))
+    (times_bound c.args.samples.now c.requires.times)
 
-given : (samples : List Stamped) (r : Result (List ℕ) AllocError) (x : List ℕ) → IfOk r (λ bytes. bytes ≡ x) → IsWritten x samples
+given : (samples : List Stamped) (r : Result (List ℕ) AllocError) (x : List ℕ)
+    → IfOk r (λ bytes. bytes ≡ x) → IsWritten x samples
     → IfOk r (λ bytes. IsWritten bytes samples)
 given samples (Ok bytes) x is written = subst (λ bs. IsWritten bs samples) (sym is) written
 given samples (Err e) x is written = tt
@@ -44,26 +46,40 @@ returns c =
     let ms = c.in_ok-mantissas.mantissas.items in
     let tb = c.deref-4.result.now in
     let vb = c.deref-5.result.now in
-    let times : c.deref.result.now ≡ times_of samples = c.deref.ensures.value ∙ c.in_ok-times.ensures in
+    let times : c.deref.result.now ≡ times_of samples = c.deref.ensures.value
+    ∙ c.in_ok-times.ensures in
     let mantissas : c.deref-2.result.now ≡ ms = c.deref-2.ensures.value in
-    let times_len : length c.deref.result.now ≡ length samples = ap length times ∙ length-map samples (λ s. pos s.time) in
-    let times_short : length tb ≤ 81920 = omega (arith, ap length c.deref-4.ensures.value, c.in_ok-times-2.ensures.len) in
-    let values_short : length vb ≤ 81920 = omega (arith, ap length c.deref-5.ensures.value, c.in_ok-values.ensures.len) in
-    let begins : slice_get ms 0 ≡ Some h.first_m = ap (λ xs. slice_get xs 0) (sym c.deref-3.ensures.value) ∙ said.first_m in
+    let times_len : length c.deref.result.now ≡ length samples = ap length times
+    ∙ length-map samples (λ s. pos s.time) in
+    let times_short : length tb ≤ 81920 =
+    omega (arith, ap length c.deref-4.ensures.value, c.in_ok-times-2.ensures.len) in
+    let values_short : length vb ≤ 81920 =
+    omega (arith, ap length c.deref-5.ensures.value, c.in_ok-values.ensures.len) in
+    let begins : slice_get ms 0 ≡ Some h.first_m =
+    ap (λ xs. slice_get xs 0) (sym c.deref-3.ensures.value) ∙ said.first_m in
     given samples c.assemble.result _ c.assemble.ensures
-    (written h samples ms tb vb c.common_shift-shift.result c.requires said.first_time said.last_time
-    c.common_shift-shift.ensures.value c.common_shift-shift.ensures.low c.common_shift-shift.ensures.high
-    c.in_ok-mantissas.ensures.values c.in_ok-mantissas.ensures.bounds c.in_ok-mantissas.ensures.samples
-    said.count (said.times ∙ c.in_ok-times-2.ensures.coding ∙ ap chosen times) (said.values ∙ c.in_ok-values.ensures.coding ∙ ap chosen mantissas)
-    said.exponent begins (said.times_len ∙ ap length (sym c.deref-4.ensures.value)) (said.values_len ∙ ap length (sym c.deref-5.ensures.value))
+    (written h samples ms tb vb c.common_shift-shift.result c.requires said.first_time
+    said.last_time
+    c.common_shift-shift.ensures.value c.common_shift-shift.ensures.low
+    c.common_shift-shift.ensures.high
+    c.in_ok-mantissas.ensures.values c.in_ok-mantissas.ensures.bounds
+    c.in_ok-mantissas.ensures.samples
+    said.count (said.times ∙ c.in_ok-times-2.ensures.coding ∙ ap chosen times)
+    (said.values ∙ c.in_ok-values.ensures.coding ∙ ap chosen mantissas)
+    said.exponent begins (said.times_len ∙ ap length (sym c.deref-4.ensures.value))
+    (said.values_len ∙ ap length (sym c.deref-5.ensures.value))
     times_short values_short
-    (subst (λ coding. IsColumn coding (pos h.first_time) (length samples) tb (times_of samples)) (sym said.times)
-    (moved_column c.in_ok-times-2.times.coding (pos h.first_time) (pos h.first_time) (length c.deref.result.now) (length samples)
+    (subst (λ coding. IsColumn coding (pos h.first_time) (length samples) tb (times_of samples))
+    (sym said.times)
+    (moved_column c.in_ok-times-2.times.coding (pos h.first_time) (pos h.first_time)
+    (length c.deref.result.now) (length samples)
     c.in_ok-times-2.times.bytes.items tb c.deref.result.now (times_of samples)
     refl times_len (sym c.deref-4.ensures.value) times
-    (c.in_ok-times-2.ensures.bytes (pos h.first_time) (ap (λ xs. slice_get xs 0) times ∙ said.first_time))))
+    (c.in_ok-times-2.ensures.bytes (pos h.first_time)
+    (ap (λ xs. slice_get xs 0) times ∙ said.first_time))))
     (subst (λ coding. IsColumn coding h.first_m (length ms) vb ms) (sym said.values)
-    (moved_column c.in_ok-values.values.coding h.first_m h.first_m (length c.deref-2.result.now) (length ms)
+    (moved_column c.in_ok-values.values.coding h.first_m h.first_m (length c.deref-2.result.now)
+    (length ms)
     c.in_ok-values.values.bytes.items vb c.deref-2.result.now ms
     refl (ap length mantissas) (sym c.deref-5.ensures.value) mantissas
     (c.in_ok-values.ensures.bytes h.first_m (ap (λ xs. slice_get xs 0) mantissas ∙ begins)))))

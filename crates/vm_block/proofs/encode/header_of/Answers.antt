@@ -9,4 +9,5 @@ returns-clause-first_time c =
 
 pub returns-clause-last_time : goal.returns-clause-last_time
 returns-clause-last_time c =
-    time_at c.args.samples.now _ c.index-samples-samples.result _ (omega (arith, c.requires.some)) refl
+    time_at c.args.samples.now _ c.index-samples-samples.result _ (omega (arith, c.requires.some))
+    refl

@@ -7,6 +7,10 @@ use Rattle.vm_block.proofs.encode.write_column.Goals as goal
 pub returns-clause-bytes : goal.returns-clause-bytes
 returns-clause-bytes c =
     λ first begins.
-    let whole = take_at c.encode-len.new.into _ c.in_ok-bytes.bytes.len (omega (arith, c.deref_mut.ensures.len)) in
-    subst (λ bs. IsColumn c.choose-coding.result first (length c.args.values.now) bs c.args.values.now)
-    (sym (c.truncate.ensures.items ∙ ap (take c.encode-len.result) whole)) (c.encode-len.ensures.column first begins)
+    let whole =
+    take_at c.encode-len.new.into _ c.in_ok-bytes.bytes.len
+    (omega (arith, c.deref_mut.ensures.len)) in
+    subst (λ bs.
+    IsColumn c.choose-coding.result first (length c.args.values.now) bs c.args.values.now)
+    (sym (c.truncate.ensures.items ∙ ap (take c.encode-len.result) whole))
+    (c.encode-len.ensures.column first begins)

@@ -9,7 +9,9 @@ pub returns-in-Some : goal.returns-in-Some
 returns-in-Some c =
     let parts = c.in-Some.ensures.cases.0 in (
       λ yes. subst (IsUp is_in_order) (sym parts)
-          (up_from_neighbours c.in-Some.first.now c.in-Some.more.now (sym c.never_falls.ensures ∙ yes)),
+          (up_from_neighbours c.in-Some.first.now c.in-Some.more.now
+          (sym c.never_falls.ensures ∙ yes)),
       λ up. c.never_falls.ensures
-          ∙ neighbours_from_up c.in-Some.first.now c.in-Some.more.now (subst (IsUp is_in_order) parts up),
+          ∙ neighbours_from_up c.in-Some.first.now c.in-Some.more.now
+          (subst (IsUp is_in_order) parts up),
     )

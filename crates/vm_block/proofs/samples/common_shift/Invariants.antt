@@ -5,6 +5,7 @@ use Rattle.vm_block.proofs.samples.common_shift.Given as goal
 
 abbrev pub invariant-loop-sample : goal.invariant-loop-sample
 invariant-loop-sample l = record {
-  least : lesser l.least (least_shift (values_of (drop l.sample-index l.samples))) ≡ least_shift (values_of l.fn.samples);
+  least : lesser l.least (least_shift (values_of (drop l.sample-index l.samples)))
+      ≡ least_shift (values_of l.fn.samples);
   range : InShifts l.least;
 }

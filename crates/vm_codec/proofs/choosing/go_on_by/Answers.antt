@@ -11,9 +11,12 @@ returns-then-not-is_step c =
     let last = to_z w64 c.loop-value.last-bits in
     let item = slice_index_or c.args.values.now c.loop-value.value-index (pos 0) in
     let same = to_z-of_z w64 item (search rules) in
-    other_step step last item c.loop-value.value-index c.args.values.now _ c.loop-value-test.true (search rules)
-    (ap (λ n. int_eq step (n -ℤ last)) (sym same) ∙ sym c.is_step.ensures ∙ c.if-not-is_step.true) c.loop-value.invariant.equal
-    ∙ same_test _ _ _ _ c.args.values.now (to_z-of_z w64 c.args.step c.ranges.step) (to_z-of_z w64 c.args.last c.ranges.last)
+    other_step step last item c.loop-value.value-index c.args.values.now _ c.loop-value-test.true
+    (search rules)
+    (ap (λ n. int_eq step (n -ℤ last)) (sym same) ∙ sym c.is_step.ensures ∙ c.if-not-is_step.true)
+    c.loop-value.invariant.equal
+    ∙ same_test _ _ _ _ c.args.values.now (to_z-of_z w64 c.args.step c.ranges.step)
+    (to_z-of_z w64 c.args.last c.ranges.last)
 
 pub loop-value-preserved : goal.loop-value-preserved
 loop-value-preserved c =
@@ -25,11 +28,15 @@ loop-value-preserved c =
     record {
       last = rw same inside;
       equal =
-          one_step_more step last item _ c.loop-value.value-index c.args.values.now _ c.loop-value-test.true (search rules) same
-          (ap (λ n. int_eq step (n -ℤ last)) (sym same) ∙ sym c.is_step.ensures ∙ c.if-not-is_step.false) c.loop-value.invariant.equal;
+          one_step_more step last item _ c.loop-value.value-index c.args.values.now
+          _ c.loop-value-test.true (search rules) same
+          (ap (λ n. int_eq step (n -ℤ last)) (sym same) ∙ sym c.is_step.ensures
+          ∙ c.if-not-is_step.false) c.loop-value.invariant.equal;
     }
 
 pub returns : goal.returns
 returns c =
-    no_step_more _ _ c.loop-value.value-index c.args.values.now _ c.loop-value-test.false c.loop-value.invariant.equal
-    ∙ same_test _ _ _ _ c.args.values.now (to_z-of_z w64 c.args.step c.ranges.step) (to_z-of_z w64 c.args.last c.ranges.last)
+    no_step_more _ _ c.loop-value.value-index c.args.values.now _ c.loop-value-test.false
+    c.loop-value.invariant.equal
+    ∙ same_test _ _ _ _ c.args.values.now (to_z-of_z w64 c.args.step c.ranges.step)
+    (to_z-of_z w64 c.args.last c.ranges.last)

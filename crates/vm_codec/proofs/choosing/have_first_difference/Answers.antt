@@ -11,9 +11,11 @@ returns-in-Some c =
     let first = c.args.first in
     let second = c.in-Some.second.now in
     let parts = c.in-Some.ensures.cases.0 in
-    let inside : unsigned_abs second < 10 ^ 18 = subst (All IsInBounds) parts c.requires.bounds 0 second (omega arith) in
+    let inside : unsigned_abs second < 10 ^ 18 =
+    subst (All IsInBounds) parts c.requires.bounds 0 second (omega arith) in
     let first_is = to_z-of_z w64 first c.ranges.first in
     let second_is = to_z-of_z w64 second (search rules) in
-    let gap = ap₂ (λ (n : ℤ) (v : ℤ). to_z w64 (of_z w64 (n -ℤ v))) second_is first_is ∙ differ second first inside c.requires.first in
+    let gap = ap₂ (λ (n : ℤ) (v : ℤ). to_z w64 (of_z w64 (n -ℤ v))) second_is first_is
+    ∙ differ second first inside c.requires.first in
     c.go_on_by.ensures ∙ same_test _ _ _ _ c.in-Some.more.now gap second_is
     ∙ ap (λ vs. are_equal (differences (first ∷ vs))) (sym parts)

@@ -21,15 +21,19 @@ loop-place-preserved c =
       room = omega (arith, c.number_len-len.ensures.few);
       total =
           counted_more c.args.coding value lean item _ _ c.loop-place.place
-          c.args.values.now c.loop-place.len c.number_len-len.result _ c.loop-place-test.true (search rules) same
-          (gap ∙ c.lean_between-lean.ensures.value ∙ ap (λ n. lean_after c.args.coding (n -ℤ value)) same)
+          c.args.values.now c.loop-place.len c.number_len-len.result _ c.loop-place-test.true
+          (search rules) same
+          (gap ∙ c.lean_between-lean.ensures.value
+          ∙ ap (λ n. lean_after c.args.coding (n -ℤ value)) same)
           (c.number_len-len.ensures.value
-          ∙ ap (λ n. length (groups 10 n)) (c.number_between.ensures ∙ ap (λ n. zigzag (n -ℤ value -ℤ lean)) same))
+          ∙ ap (λ n. length (groups 10 n))
+          (c.number_between.ensures ∙ ap (λ n. zigzag (n -ℤ value -ℤ lean)) same))
           c.loop-place.invariant.total;
     }
 
 pub returns : goal.returns
 returns c =
-    counted_all c.args.coding _ _ c.loop-place.place c.args.values.now c.loop-place.len _ c.loop-place-test.false
+    counted_all c.args.coding _ _ c.loop-place.place c.args.values.now c.loop-place.len
+    _ c.loop-place-test.false
     c.loop-place.invariant.total
     ∙ ap length (differences_of c.args.coding c.args.values.now c.requires.coding c.requires.some)

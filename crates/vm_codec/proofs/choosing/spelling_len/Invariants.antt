@@ -10,5 +10,6 @@ invariant-loop-place l = record {
   room : l.len + 10 ≤ 10 * l.place;
   total :
       l.len + length (spelled_from l.coding l.value l.lean (drop l.place l.values))
-      ≡ length (spelled_from l.coding (slice_index_or l.values 0 (pos 0)) (pos 0) (drop 1 l.values));
+      ≡ length
+      (spelled_from l.coding (slice_index_or l.values 0 (pos 0)) (pos 0) (drop 1 l.values));
 }

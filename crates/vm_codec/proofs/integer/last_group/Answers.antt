@@ -12,9 +12,17 @@ returns-in_err-group-clause-value c =
 pub returns-then-group-eq1-clause-value : goal.returns-then-group-eq1-clause-value
 returns-then-group-eq1-clause-value c =
     let one = eq-eqb c.in_ok-group.group.now 1 c.if-group-eq1.true in
-    rw (c.in_ok-group.ensures.cases.0, tenth c.args.below c.in_ok-group.group.now c.in_ok-group.more.now c.requires, one) refl
+    rw (
+      c.in_ok-group.ensures.cases.0,
+      tenth c.args.below c.in_ok-group.group.now c.in_ok-group.more.now c.requires,
+      one,
+    ) refl
 
 pub returns-else-group-eq1-clause-value : goal.returns-else-group-eq1-clause-value
 returns-else-group-eq1-clause-value c =
     let other = ne_eqb c.in_ok-group.group.now 1 c.if-group-eq1.false in
-    rw (c.in_ok-group.ensures.cases.0, tenth c.args.below c.in_ok-group.group.now c.in_ok-group.more.now c.requires, other) refl
+    rw (
+      c.in_ok-group.ensures.cases.0,
+      tenth c.args.below c.in_ok-group.group.now c.in_ok-group.more.now c.requires,
+      other,
+    ) refl

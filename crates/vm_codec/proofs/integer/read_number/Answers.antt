@@ -5,12 +5,19 @@ use Rattle.vm_codec.proofs.Groups.{at_front, no_more, scale_small, scale_more, g
 use Rattle.vm_codec.proofs.integer.read_number.Goals as goal
 
 pub loop-place-init : goal.loop-place-init
-loop-place-init c = record { scale = refl; below = omega arith; shorter = omega arith; read = at_front c.args.bytes.now }
+loop-place-init c =
+    record {
+      scale = refl;
+      below = omega arith;
+      shorter = omega arith;
+      read = at_front c.args.bytes.now;
+    }
 
 pub returns-in_err-byte-clause-value : goal.returns-in_err-byte-clause-value
 returns-in_err-byte-clause-value c =
     rw c.from_residual.ensures
-    (no_more c.loop-place.place c.loop-place.number c.loop-place.scale c.loop-place.rest.now c.args.bytes.now
+    (no_more c.loop-place.place c.loop-place.number c.loop-place.scale c.loop-place.rest.now
+    c.args.bytes.now
     c.in_err-byte.ensures.cases c.loop-place.invariant.read)
 
 pub overflow_mul-number : goal.overflow_mul-number
@@ -18,7 +25,8 @@ overflow_mul-number c =
     omega (
       arith,
       group_small c.loop-place.number c.loop-place.scale c.from-group.result c.loop-place.place
-          c.loop-place.invariant.scale c.loop-place.invariant.below c.loop-place-test.true (omega arith),
+          c.loop-place.invariant.scale c.loop-place.invariant.below c.loop-place-test.true
+          (omega arith),
     )
 
 pub overflow_add-number : goal.overflow_add-number
@@ -26,20 +34,31 @@ overflow_add-number c =
     omega (
       arith,
       group_small c.loop-place.number c.loop-place.scale c.from-group.result c.loop-place.place
-          c.loop-place.invariant.scale c.loop-place.invariant.below c.loop-place-test.true (omega arith),
+          c.loop-place.invariant.scale c.loop-place.invariant.below c.loop-place-test.true
+          (omega arith),
     )
 
 pub overflow_mul-scale : goal.overflow_mul-scale
 overflow_mul-scale c =
-    omega (arith, scale_small c.loop-place.scale c.loop-place.place c.loop-place.invariant.scale c.loop-place-test.true)
+    omega (
+      arith,
+      scale_small c.loop-place.scale c.loop-place.place c.loop-place.invariant.scale
+          c.loop-place-test.true,
+    )
 
 pub returns-then-place-gt0-clause-value : goal.returns-then-place-gt0-clause-value
 returns-then-place-gt0-clause-value c =
-    let small = group_small c.loop-place.number c.loop-place.scale c.from-group.result c.loop-place.place
-    c.loop-place.invariant.scale c.loop-place.invariant.below c.loop-place-test.true (omega arith) in
-    let fits : c.loop-place.number + c.from-group.result * c.loop-place.scale < 2 ^ 64 = omega arith in
-    let read = ends c.loop-place.place c.loop-place.number c.loop-place.scale c.in_ok-byte.byte.now c.from-group.result
-    c.in_ok-byte.more.now c.loop-place.rest.now c.args.bytes.now c.in_ok-byte.ensures.cases.0 c.if-byte-lt128.true
+    let small =
+    group_small c.loop-place.number c.loop-place.scale c.from-group.result c.loop-place.place
+    c.loop-place.invariant.scale c.loop-place.invariant.below c.loop-place-test.true
+    (omega arith) in
+    let fits : c.loop-place.number + c.from-group.result * c.loop-place.scale < 2 ^ 64 =
+    omega arith in
+    let read =
+    ends c.loop-place.place c.loop-place.number c.loop-place.scale c.in_ok-byte.byte.now
+    c.from-group.result
+    c.in_ok-byte.more.now c.loop-place.rest.now c.args.bytes.now c.in_ok-byte.ensures.cases.0
+    c.if-byte-lt128.true
     c.from-group.ensures fits c.loop-place-test.true c.loop-place.invariant.read in
     let follows = lt-ltb 0 c.loop-place.place c.if-place-gt0.true in
     let nought = eq-eqb c.from-group.result 0 c.if-group-eq0.true in
@@ -47,11 +66,17 @@ returns-then-place-gt0-clause-value c =
 
 pub returns-else-group-eq0-clause-value : goal.returns-else-group-eq0-clause-value
 returns-else-group-eq0-clause-value c =
-    let small = group_small c.loop-place.number c.loop-place.scale c.from-group.result c.loop-place.place
-    c.loop-place.invariant.scale c.loop-place.invariant.below c.loop-place-test.true (omega arith) in
-    let fits : c.loop-place.number + c.from-group.result * c.loop-place.scale < 2 ^ 64 = omega arith in
-    let read = ends c.loop-place.place c.loop-place.number c.loop-place.scale c.in_ok-byte.byte.now c.from-group.result
-    c.in_ok-byte.more.now c.loop-place.rest.now c.args.bytes.now c.in_ok-byte.ensures.cases.0 c.if-byte-lt128.true
+    let small =
+    group_small c.loop-place.number c.loop-place.scale c.from-group.result c.loop-place.place
+    c.loop-place.invariant.scale c.loop-place.invariant.below c.loop-place-test.true
+    (omega arith) in
+    let fits : c.loop-place.number + c.from-group.result * c.loop-place.scale < 2 ^ 64 =
+    omega arith in
+    let read =
+    ends c.loop-place.place c.loop-place.number c.loop-place.scale c.in_ok-byte.byte.now
+    c.from-group.result
+    c.in_ok-byte.more.now c.loop-place.rest.now c.args.bytes.now c.in_ok-byte.ensures.cases.0
+    c.if-byte-lt128.true
     c.from-group.ensures fits c.loop-place-test.true c.loop-place.invariant.read in
     let kept = may_end c.loop-place.place c.from-group.result c.else-group-eq0.either in
     rw kept at read
@@ -62,11 +87,14 @@ loop-place-preserved c = record {
   below = omega (
     arith,
     group_small c.loop-place.number c.loop-place.scale c.from-group.result c.loop-place.place
-        c.loop-place.invariant.scale c.loop-place.invariant.below c.loop-place-test.true (omega arith),
+        c.loop-place.invariant.scale c.loop-place.invariant.below c.loop-place-test.true
+        (omega arith),
   );
   shorter = omega (arith, c.in_ok-byte.ensures.cases.1);
   read =
-      goes_on c.loop-place.place c.loop-place.number c.loop-place.scale c.in_ok-byte.byte.now c.from-group.result
-      c.in_ok-byte.more.now c.loop-place.rest.now c.args.bytes.now c.in_ok-byte.ensures.cases.0 c.if-byte-lt128.false
+      goes_on c.loop-place.place c.loop-place.number c.loop-place.scale c.in_ok-byte.byte.now
+      c.from-group.result
+      c.in_ok-byte.more.now c.loop-place.rest.now c.args.bytes.now c.in_ok-byte.ensures.cases.0
+      c.if-byte-lt128.false
       (omega arith) c.from-group.ensures c.loop-place-test.true c.loop-place.invariant.read;
 }

@@ -8,5 +8,6 @@ invariant-loop-place l = record {
   scale : l.scale ≡ 128 ^ l.place;
   below : l.number < l.scale;
   shorter : length l.rest ≤ length l.bytes;
-  read : in_64_bits (behind l.place l.number l.scale (groups_at (10 - l.place) l.rest)) ≡ number_at l.bytes;
+  read : in_64_bits (behind l.place l.number l.scale (groups_at (10 - l.place) l.rest))
+      ≡ number_at l.bytes;
 }

@@ -21,7 +21,8 @@ returns-in_default-clause-broken c =
     ap (all_read (length c.args.bytes.now))
     (same_values c.args.coding _ _ _ _ c.args.bytes.now (to_z-of_z w64 c.args.first c.ranges.first)
     (ap (λ n. n - 1) (length-set c.args.into.now 0 _))
-    ∙ values_stuck c.args.coding c.loop-place.place _ _ c.loop-place.into c.loop-place.rest.now _ (omega arith)
+    ∙ values_stuck c.args.coding c.loop-place.place _ _ c.loop-place.into c.loop-place.rest.now
+    _ (omega arith)
     (sym c.in_default.ensures.value) c.loop-place.invariant.read)
     ∙ ap Err (sym c.left_at.ensures)
 
@@ -31,15 +32,21 @@ loop-place-preserved c =
     let value = c.loop-place.invariant.bound in
     let difference = ap (λ n. to_z w64 (of_z w64 (n -ℤ to_z w64 c.loop-place.value-bits))) next
     ∙ differ c.in-Some.next (to_z w64 c.loop-place.value-bits) c.in-Some.ensures.bound value in
-    let small = rw (← difference) at (differ_small c.in-Some.next (to_z w64 c.loop-place.value-bits) c.in-Some.ensures.bound value) in
+    let small =
+    rw (← difference) at
+    (differ_small c.in-Some.next (to_z w64 c.loop-place.value-bits) c.in-Some.ensures.bound
+    value) in
     let lean = to_z-of_z w64 c.lean_after-lean.result (search rules) in
     record {
       bound = rw next c.in-Some.ensures.bound;
       lean = rw lean (omega (arith, c.lean_after-lean.ensures.small, small));
       shorter = omega (arith, c.in-Some.ensures.shorter);
       read =
-          values_more c.args.coding c.loop-place.place _ _ _ c.in-Some.next _ c.loop-place.into c.loop-place.rest.now c.in-Some.more.now _
-          (omega arith) (sym c.in-Some.ensures.value) (lean ∙ c.lean_after-lean.ensures.value ∙ ap (lean_after c.args.coding) difference) next
+          values_more c.args.coding c.loop-place.place _ _ _ c.in-Some.next _ c.loop-place.into
+          c.loop-place.rest.now c.in-Some.more.now _
+          (omega arith) (sym c.in-Some.ensures.value)
+          (lean ∙ c.lean_after-lean.ensures.value ∙ ap (lean_after c.args.coding) difference)
+          next
           c.loop-place.invariant.read;
     }
 
@@ -47,4 +54,5 @@ pub returns-clause-read : goal.returns-clause-read
 returns-clause-read c =
     same_values c.args.coding _ _ _ _ c.args.bytes.now (to_z-of_z w64 c.args.first c.ranges.first)
     (ap (λ n. n - 1) (length-set c.args.into.now 0 _))
-    ∙ values_done c.args.coding c.loop-place.place _ _ c.loop-place.into c.loop-place.rest.now _ (omega arith) c.loop-place.invariant.read
+    ∙ values_done c.args.coding c.loop-place.place _ _ c.loop-place.into c.loop-place.rest.now
+    _ (omega arith) c.loop-place.invariant.read

@@ -10,6 +10,7 @@ invariant-loop-place l = record {
   lean : unsigned_abs l.lean < 2 * 10 ^ 18;
   shorter : length l.rest ≤ length l.bytes;
   read :
-      with_front (take l.place l.into) (values_at l.coding (length l.into - l.place) l.value l.lean l.rest)
+      with_front (take l.place l.into)
+      (values_at l.coding (length l.into - l.place) l.value l.lean l.rest)
       ≡ onto l.first (values_at l.coding (length l.initial.into - 1) l.first (pos 0) l.bytes);
 }

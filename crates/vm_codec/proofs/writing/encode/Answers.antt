@@ -16,9 +16,12 @@ pub returns-in-DeltaConst-clause-column : goal.returns-in-DeltaConst-clause-colu
 returns-in-DeltaConst-clause-column c =
     let values = c.args.values.now in
     let two = chosen_two values c.requires.some (sym c.in-DeltaConst.is ∙ c.requires.coding) in
-    let gap = ap₂ (λ n v. zigzag (n -ℤ v -ℤ pos 0)) (to_z-of_z w64 (slice_index_or values 1 (pos 0)) (search rules))
+    let gap =
+    ap₂ (λ n v. zigzag (n -ℤ v -ℤ pos 0))
+    (to_z-of_z w64 (slice_index_or values 1 (pos 0)) (search rules))
     (to_z-of_z w64 (slice_index_or values 0 (pos 0)) (search rules)) in
     column_of c.args.coding values _ c.requires.coding c.requires.some c.requires.bounds
     (c.write_number.ensures.front
-    ∙ one_integer values c.number_between.result two (c.number_between.ensures ∙ gap ∙ ap zigzag (less_nothing _))
+    ∙ one_integer values c.number_between.result two
+    (c.number_between.ensures ∙ gap ∙ ap zigzag (less_nothing _))
     ∙ ap (λ coding. spelling coding values) (sym c.in-DeltaConst.is))

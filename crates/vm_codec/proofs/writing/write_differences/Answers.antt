@@ -22,18 +22,21 @@ loop-place-preserved c =
       front =
           written_more c.args.coding value lean item _ _ c.loop-place.place
           c.args.values.now _ _ _ c.loop-place-test.true (search rules) same
-          (gap ∙ c.lean_between-lean.ensures.value ∙ ap (λ n. lean_after c.args.coding (n -ℤ value)) same)
+          (gap ∙ c.lean_between-lean.ensures.value
+          ∙ ap (λ n. lean_after c.args.coding (n -ℤ value)) same)
           (c.write_number-end.ensures.front
           ∙ ap (λ n. take c.loop-place.end c.loop-place.into ++ groups 10 n)
           (c.number_between.ensures ∙ ap (λ n. zigzag (n -ℤ value -ℤ lean)) same))
           c.loop-place.invariant.front;
       back =
           c.write_number-end.ensures.back
-          ∙ further c.loop-place.end c.write_number-end.result c.loop-place.into c.args.into.now c.write_number-end.ensures.few.0
+          ∙ further c.loop-place.end c.write_number-end.result c.loop-place.into c.args.into.now
+          c.write_number-end.ensures.few.0
           c.loop-place.invariant.back;
     }
 
 pub returns-clause-spelled : goal.returns-clause-spelled
 returns-clause-spelled c =
-    written_all c.args.coding _ _ c.loop-place.place c.args.values.now _ _ c.loop-place-test.false c.loop-place.invariant.front
+    written_all c.args.coding _ _ c.loop-place.place c.args.values.now _ _ c.loop-place-test.false
+    c.loop-place.invariant.front
     ∙ differences_of c.args.coding c.args.values.now c.requires.coding c.requires.some

@@ -14,5 +14,6 @@ returns c =
     let shift = c.shift_behind.result in
     let e = c.args.shift -ℤ pos 1000 in
     let same = to_z-of_z w32 shift (search rules) in
-    dec_of-size c.args.negative c.args.size bare noughts e {shift = shift} (rw same at c.in_form.ensures)
+    dec_of-size c.args.negative c.args.size bare noughts e {shift = shift}
+    (rw same at c.in_form.ensures)
     c.without_noughts-size.ensures.whole c.without_noughts-size.ensures.last (omega (arith, ints))

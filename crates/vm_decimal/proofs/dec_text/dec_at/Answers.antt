@@ -9,8 +9,10 @@ returns-then-size-eq0 c = dec_of-none c.args.negative c.args.size c.args.exponen
 
 pub returns-then-exponent-ltminus10000 : goal.returns-then-exponent-ltminus10000
 returns-then-exponent-ltminus10000 c =
-    sym (dec_of-far c.args.negative c.args.size c.args.exponent (omega arith) c.requires (inl (omega (arith, ints))))
+    sym (dec_of-far c.args.negative c.args.size c.args.exponent (omega arith) c.requires
+    (inl (omega (arith, ints))))
 
 pub returns-then-exponent-gt10000 : goal.returns-then-exponent-gt10000
 returns-then-exponent-gt10000 c =
-    sym (dec_of-far c.args.negative c.args.size c.args.exponent (omega arith) c.requires (inr (omega (arith, ints))))
+    sym (dec_of-far c.args.negative c.args.size c.args.exponent (omega arith) c.requires
+    (inr (omega (arith, ints))))

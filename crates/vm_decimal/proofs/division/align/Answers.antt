@@ -11,5 +11,6 @@ pub returns-clause-aligned : goal.returns-clause-aligned
 returns-clause-aligned c =
     let n = c.args.dividend in
     let d = c.args.divisor in
-    let is : c.in-Some.size ≡ n.size * 10 ^ (n.shift - d.shift) = omega (arith, c.in-Some.ensures) in
+    let is : c.in-Some.size ≡ n.size * 10 ^ (n.shift - d.shift) =
+    omega (arith, c.in-Some.ensures) in
     lower_divisor n d c.in-Some.size c.requires.some c.if-dividend-divisor.false is (omega arith)

@@ -12,7 +12,8 @@ returns-in_default c =
     let two = c.args.two in
     let n = c.scaled.result in
     let d = c.scaled-2.result in
-    beyond 0 one.negative one.size one.shift two.negative two.size two.shift c.requires.one c.requires.two n d
+    beyond 0 one.negative one.size one.shift two.negative two.size two.shift c.requires.one
+    c.requires.two n d
     c.scaled.ensures.size c.scaled.ensures.shift c.scaled-2.ensures.shift
     (in_range (nearest_quotient (value one) (value two) *ℤ value two))
     (omega (arith, c.in_default.ensures.wide))
@@ -27,9 +28,12 @@ returns c =
     let whole_n : whole c.scaled.result ≡ c.args.one.size * 10 ^ c.args.one.shift =
     whole_is n one.size (one.shift) c.scaled.ensures.size (c.scaled.ensures.shift ∙ omega arith) in
     let whole_d : whole c.scaled-2.result ≡ c.args.two.size * 10 ^ c.args.two.shift =
-    whole_is d two.size two.shift c.scaled-2.ensures.size (c.scaled-2.ensures.shift ∙ omega arith) in
-    let found = c.nearest_multiple_of.ensures n d aligned ∙ ap₂ (λ m k. nearest m k * k) whole_n whole_d in
-    within 0 one.negative one.size one.shift two.negative two.size two.shift c.requires.one c.requires.two n d
+    whole_is d two.size two.shift c.scaled-2.ensures.size
+    (c.scaled-2.ensures.shift ∙ omega arith) in
+    let found = c.nearest_multiple_of.ensures n d aligned
+    ∙ ap₂ (λ m k. nearest m k * k) whole_n whole_d in
+    within 0 one.negative one.size one.shift two.negative two.size two.shift c.requires.one
+    c.requires.two n d
     c.scaled.ensures.size c.scaled.ensures.shift c.scaled-2.ensures.shift c.in-Some.both aligned
     (c.placed_up.ensures
     ∙ ap in_range (multiple_is one.negative one.size one.shift two.negative two.size two.shift

@@ -10,7 +10,8 @@ returns-in_default c =
     let two = c.args.two in
     let n = c.scaled.result in
     let d = c.scaled-2.result in
-    beyond 0 one.negative one.size one.shift two.negative two.size two.shift c.requires.one c.requires.two n d
+    beyond 0 one.negative one.size one.shift two.negative two.size two.shift c.requires.one
+    c.requires.two n d
     c.scaled.ensures.size c.scaled.ensures.shift c.scaled-2.ensures.shift
     (in_range (int_rem (value one) (value two)))
     (omega (arith, c.in_default.ensures.wide))
@@ -25,10 +26,13 @@ returns c =
     let whole_n : whole c.scaled.result ≡ c.args.one.size * 10 ^ c.args.one.shift =
     whole_is n one.size (one.shift) c.scaled.ensures.size (c.scaled.ensures.shift ∙ omega arith) in
     let whole_d : whole c.scaled-2.result ≡ c.args.two.size * 10 ^ c.args.two.shift =
-    whole_is d two.size two.shift c.scaled-2.ensures.size (c.scaled-2.ensures.shift ∙ omega arith) in
+    whole_is d two.size two.shift c.scaled-2.ensures.size
+    (c.scaled-2.ensures.shift ∙ omega arith) in
     let left = c.remaining.ensures n d aligned ∙ ap₂ (λ m k. m % k) whole_n whole_d in
-    within 0 one.negative one.size one.shift two.negative two.size two.shift c.requires.one c.requires.two n d
+    within 0 one.negative one.size one.shift two.negative two.size two.shift c.requires.one
+    c.requires.two n d
     c.scaled.ensures.size c.scaled.ensures.shift c.scaled-2.ensures.shift c.in-Some.both aligned
     (c.placed_up.ensures
-    ∙ ap in_range (rest_is one.negative one.size one.shift two.negative two.size two.shift c.remaining.result
+    ∙ ap in_range
+    (rest_is one.negative one.size one.shift two.negative two.size two.shift c.remaining.result
     c.in-Some.both.shift left))

@@ -5,7 +5,8 @@ use Rattle.vm_decimal.proofs.exact.with_digit.Goals.{else-digits-eq0-via-then-di
 
 pub returns-then-digits-lt-ROOM-clause-value : goal.returns-then-digits-lt-ROOM-clause-value
 returns-then-digits-lt-ROOM-clause-value c n is =
-    rw c.from.ensures (with_room c.args.digits n c.args.digit is (omega arith) (omega arith) c.requires.digit)
+    rw c.from.ensures
+    (with_room c.args.digits n c.args.digit is (omega arith) (omega arith) c.requires.digit)
 
 pub returns-then-digit-eq0-clause-value : goal.returns-then-digit-eq0-clause-value
 returns-then-digit-eq0-clause-value c n is =

@@ -19,13 +19,22 @@ returns c =
     let gap = 10 ^ (s.shift - low) in
     let other_gap = 10 ^ (t.shift - low) in
     record {
-      one_is = at_level s.mantissa (to_z w128 (of_z w128 c.raised.result)) s.shift low c.args.one (omega arith) c.one.view_is
-          (one ∙ ap (λ k. k *ℤ pos gap) (m ∙ first.ensures.value ∙ to_z-of_z w128 s.mantissa (search rules)));
-      two_is = at_level t.mantissa (to_z w128 (of_z w128 c.raised-2.result)) t.shift low c.args.two (omega arith) c.two.view_is
-          (two ∙ ap (λ k. k *ℤ pos other_gap) (n ∙ second.ensures.value ∙ to_z-of_z w128 t.mantissa (search rules)));
-      few = few_at first.first (to_z w128 (of_z w128 c.raised.result)) (s.shift - low) first.ensures.few
+      one_is =
+          at_level s.mantissa (to_z w128 (of_z w128 c.raised.result)) s.shift low c.args.one
+          (omega arith) c.one.view_is
+          (one ∙ ap (λ k. k *ℤ pos gap)
+          (m ∙ first.ensures.value ∙ to_z-of_z w128 s.mantissa (search rules)));
+      two_is =
+          at_level t.mantissa (to_z w128 (of_z w128 c.raised-2.result)) t.shift low c.args.two
+          (omega arith) c.two.view_is
+          (two ∙ ap (λ k. k *ℤ pos other_gap)
+          (n ∙ second.ensures.value ∙ to_z-of_z w128 t.mantissa (search rules)));
+      few = few_at first.first (to_z w128 (of_z w128 c.raised.result)) (s.shift - low)
+          first.ensures.few
           c.if-gap-gt-MOST.false (one ∙ ap (λ k. k *ℤ pos gap) m);
-      few_too = few_at second.second (to_z w128 (of_z w128 c.raised-2.result)) (t.shift - low) second.ensures.few
+      few_too =
+          few_at second.second (to_z w128 (of_z w128 c.raised-2.result)) (t.shift - low)
+          second.ensures.few
           c.if-other_gap-gt-MOST.false (two ∙ ap (λ k. k *ℤ pos other_gap) n);
       high = omega (arith, c.one.invariant.high);
     }

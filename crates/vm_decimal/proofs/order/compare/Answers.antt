@@ -14,7 +14,8 @@ pub returns-then-one-two-2 : goal.returns-then-one-two-2
 returns-then-one-two-2 c =
     let one = c.args.one in
     let two = c.args.two in
-    let raised = c.compare_raised.ensures ∙ higher_shift two.size one.size two.shift one.shift (omega arith) in
+    let raised = c.compare_raised.ensures
+    ∙ higher_shift two.size one.size two.shift one.shift (omega arith) in
     c.reverse.ensures ∙ ap ordering_reverse raised
     ∙ sym (nat_cmp_total.antisymm (one.size * 10 ^ one.shift) (two.size * 10 ^ two.shift))
 
@@ -22,4 +23,5 @@ pub returns : goal.returns
 returns c =
     let one = c.args.one in
     let two = c.args.two in
-    c.compare_raised-2.ensures ∙ higher_shift one.size two.size one.shift two.shift c.if-one-two-2.false
+    c.compare_raised-2.ensures
+    ∙ higher_shift one.size two.size one.shift two.shift c.if-one-two-2.false

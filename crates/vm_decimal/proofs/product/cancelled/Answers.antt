@@ -6,7 +6,8 @@ use Rattle.vm_decimal.proofs.product.cancelled.Goals as goal
 pub tens-preserved : goal.tens-preserved
 tens-preserved c =
     let t = c.tens in
-    let five : t.fives % 5 ≡ 0 = grind (arith, nat_tests, c.if-is_five_fold.true, c.is_five_fold.ensures) in
+    let five : t.fives % 5 ≡ 0 =
+    grind (arith, nat_tests, c.if-is_five_fold.true, c.is_five_fold.ensures) in
     record {
       some = omega arith;
       some_too = omega arith;
@@ -16,8 +17,10 @@ tens-preserved c =
 
 pub returns-else-is_five_fold-clause-few : goal.returns-else-is_five_fold-clause-few
 returns-else-is_five_fold-clause-few c =
-    few_twos c.args.twos c.tens.twos c.tens.tens c.tens.invariant.twos_out c.tens.invariant.some (omega arith)
+    few_twos c.args.twos c.tens.twos c.tens.tens c.tens.invariant.twos_out c.tens.invariant.some
+    (omega arith)
 
 pub returns-after-tens-clause-few : goal.returns-after-tens-clause-few
 returns-after-tens-clause-few c =
-    few_twos c.args.twos c.tens.twos c.tens.tens c.tens.invariant.twos_out c.tens.invariant.some (omega arith)
+    few_twos c.args.twos c.tens.twos c.tens.tens c.tens.invariant.twos_out c.tens.invariant.some
+    (omega arith)

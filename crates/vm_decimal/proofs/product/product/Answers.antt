@@ -26,10 +26,13 @@ returns-in_default c =
     let then : Parted f.result.fives f.result.twos t.result.twos t.result.fives t.result.tens =
     record { first = t.ensures.twos; second = t.ensures.fives; done = t.ensures.done } in
     product_wide one.negative one.size one.shift two.negative two.size two.shift
-    (t.result.twos * t.result.fives) (t.result.tens + f.result.tens) (omega (arith, c.in_default.ensures))
-    (all_tens one.size two.size f.result.twos f.result.fives f.result.tens t.result.fives t.result.twos
+    (t.result.twos * t.result.fives) (t.result.tens + f.result.tens)
+    (omega (arith, c.in_default.ensures))
+    (all_tens one.size two.size f.result.twos f.result.fives f.result.tens t.result.fives
+    t.result.twos
     t.result.tens first then)
-    (no_ten one.size two.size f.result.twos f.result.fives f.result.tens t.result.fives t.result.twos
+    (no_ten one.size two.size f.result.twos f.result.fives f.result.tens t.result.fives
+    t.result.twos
     t.result.tens first then (λ end. c.if-one-eq0.false (c.requires.one.short end))
     (λ end. c.if-two-eq0.false (c.requires.two.short end)))
 
@@ -68,9 +71,11 @@ returns c =
     ∙ ap (λ n. placed (differ one.negative two.negative) n shift) is in
     product_placed one.negative one.size one.shift two.negative two.size two.shift
     (t.result.twos * t.result.fives) (t.result.tens + f.result.tens) {shift = shift} found
-    (all_tens one.size two.size f.result.twos f.result.fives f.result.tens t.result.fives t.result.twos
+    (all_tens one.size two.size f.result.twos f.result.fives f.result.tens t.result.fives
+    t.result.twos
     t.result.tens first then)
-    (no_ten one.size two.size f.result.twos f.result.fives f.result.tens t.result.fives t.result.twos
+    (no_ten one.size two.size f.result.twos f.result.fives f.result.tens t.result.fives
+    t.result.twos
     t.result.tens first then (λ end. c.if-one-eq0.false (c.requires.one.short end))
     (λ end. c.if-two-eq0.false (c.requires.two.short end)))
     (omega (arith, ints))

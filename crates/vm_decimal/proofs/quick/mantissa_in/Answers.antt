@@ -6,7 +6,8 @@ use Rattle.vm_decimal.proofs.quick.mantissa_in.Goals as goal
 pub digits_behind-whole-requires-clause-room : goal.digits_behind-whole-requires-clause-room
 digits_behind-whole-requires-clause-room c =
     let power : 10 ^ length (take c.min.result c.args.text.now) ≤ 10 ^ 38 =
-    pow-le-pow_right {n = 10} (omega arith) {i = length (take c.min.result c.args.text.now)} {j = 38}
+    pow-le-pow_right {n = 10}
+    (omega arith) {i = length (take c.min.result c.args.text.now)} {j = 38}
     (omega (arith, length-take c.min.result c.args.text.now, c.min.ensures)) in
     omega arith
 
@@ -39,9 +40,12 @@ returns-then-text-end-eq46 c =
     let left = c.min-then-text-end-eq46.result in
     let rest = take (length c.args.text.now - (end + 1)) (drop (end + 1) c.args.text.now) in
     pointed_quick c.args.text.now (take few c.args.text.now) (take left rest) few left
-    c.digits_behind-whole.result.0 end c.digits_behind-size.result.0 c.digits_behind-size.result.1 refl
-    (omega (arith, c.min.ensures)) first.within c.if-end-text.true c.if-text-end-eq46.true first.digits
-    first.value first.small refl (omega (arith, c.min-then-text-end-eq46.ensures)) second.within second.digits
+    c.digits_behind-whole.result.0 end c.digits_behind-size.result.0 c.digits_behind-size.result.1
+    refl
+    (omega (arith, c.min.ensures)) first.within c.if-end-text.true c.if-text-end-eq46.true
+    first.digits
+    first.value first.small refl (omega (arith, c.min-then-text-end-eq46.ensures)) second.within
+    second.digits
     second.value second.small c.if-end-places-lt1.false
 
 pub returns : goal.returns
@@ -49,5 +53,6 @@ returns c =
     let first = c.digits_behind-whole.ensures in
     let few = c.min.result in
     whole_quick c.args.text.now (take few c.args.text.now) few c.digits_behind-whole.result.0
-    c.digits_behind-whole.result.1 refl (omega (arith, c.min.ensures)) first.within c.if-end-lt1.false
+    c.digits_behind-whole.result.1 refl (omega (arith, c.min.ensures)) first.within
+    c.if-end-lt1.false
     first.digits first.value first.small

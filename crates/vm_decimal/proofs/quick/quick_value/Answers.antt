@@ -11,4 +11,6 @@ returns c =
     let m = c.in_ok-mantissa in
     quick_sample c.args.text.now n m.mantissa c.sample_of.result c.in_ok-number.ensures
     (m.ensures.value ∙ to_z-of_z w128 n.mantissa (search rules)) m.ensures.few
-    (c.sample_of.ensures ∙ ap₂ sample_of (to_z-of_z w64 m.mantissa (search rules)) (to_z-of_z w64 n.exponent (search rules)))
+    (c.sample_of.ensures
+    ∙ ap₂ sample_of (to_z-of_z w64 m.mantissa (search rules))
+    (to_z-of_z w64 n.exponent (search rules)))

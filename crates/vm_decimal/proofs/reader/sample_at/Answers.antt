@@ -16,10 +16,13 @@ pub returns-then-exponent-ltminus1000 : goal.returns-then-exponent-ltminus1000
 returns-then-exponent-ltminus1000 c =
     let far : (c.args.exponent <ℤ negsuc 999) ⊎ (pos 1000 <ℤ c.args.exponent) =
     elim c.then-exponent-ltminus1000.branch [
-      | then-exponent-ltminus1000-via-then-exponent-ltminus1000 w ↦ inl (omega (arith, ints, w.if-exponent-ltminus1000.true))
-      | then-exponent-ltminus1000-via-else-exponent-ltminus1000+then-exponent-gt1000 w ↦ inr (omega (arith, ints, w.if-exponent-gt1000.true))
+      | then-exponent-ltminus1000-via-then-exponent-ltminus1000 w ↦
+          inl (omega (arith, ints, w.if-exponent-ltminus1000.true))
+      | then-exponent-ltminus1000-via-else-exponent-ltminus1000+then-exponent-gt1000 w ↦
+          inr (omega (arith, ints, w.if-exponent-gt1000.true))
     ] in
-    sym (sample_of_digits-far c.args.negative c.args.size c.args.exponent (omega arith) c.requires far)
+    sym (sample_of_digits-far c.args.negative c.args.size c.args.exponent (omega arith) c.requires
+    far)
 
 pub returns : goal.returns
 returns c =

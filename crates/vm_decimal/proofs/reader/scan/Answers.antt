@@ -23,7 +23,8 @@ loop-at-preserved c =
     record {
       comes = record {
         state = next.0;
-        there = came c.args.text.now c.loop-at.at now.state c.loop-at-test.true now.there next.0 next.1;
+        there = came c.args.text.now c.loop-at.at now.state c.loop-at-test.true now.there next.0
+            next.1;
         stands = next.2;
       };
       counts = c.if-not-step.ensures.counts c.loop-at.at c.loop-at.invariant.counts;
@@ -32,7 +33,9 @@ loop-at-preserved c =
 pub returns-clause-wrong : goal.returns-clause-wrong
 returns-clause-wrong c =
     let now = c.loop-at.invariant.comes in
-    let all : take c.loop-at.at c.args.text.now ≡ c.args.text.now = take_all c.loop-at.at c.args.text.now (omega arith) in
+    let all : take c.loop-at.at c.args.text.now ≡ c.args.text.now =
+    take_all c.loop-at.at c.args.text.now (omega arith) in
     let done : may_end now.state.phase ≡ false =
     ap may_end (sym now.stands.phase) ∙ sym c.may_end.ensures ∙ c.if-may_end.false in
-    reading_short c.args.text.now now.state (subst (λ t. run step start t ≡ Some now.state) all now.there) done
+    reading_short c.args.text.now now.state
+    (subst (λ t. run step start t ≡ Some now.state) all now.there) done

@@ -8,7 +8,8 @@ use Rattle.vm_decimal.proofs.sample_text.read_sample.Goals as goal
 
 pub returns-clause-reading : goal.returns-clause-reading
 unfolding sample_reading
-returns-clause-reading c = c.answer.ensures ∙ ap (value_reading c.args.text.now) c.number_value.ensures
+returns-clause-reading c = c.answer.ensures
+    ∙ ap (value_reading c.args.text.now) c.number_value.ensures
 
 pub returns-clause-value : goal.returns-clause-value
 returns-clause-value c z =

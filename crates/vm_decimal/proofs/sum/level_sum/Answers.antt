@@ -8,5 +8,6 @@ returns c =
     let two = c.args.two in
     let sum = c.signed_sum-negative in
     c.placed_up.ensures
-    ∙ level sum.result.0 sum.result.1 one.negative one.size two.negative two.size one.shift two.shift
+    ∙ level sum.result.0 sum.result.1 one.negative one.size two.negative two.size one.shift
+    two.shift
     c.requires.level sum.ensures

@@ -13,5 +13,6 @@ returns-in-Some c =
     let two = to_z-of_z w128 both.two (search rules) in
     let all = to_z w128 (of_z w128 both.one) +ℤ to_z w128 (of_z w128 both.two) in
     c.placed_at.ensures
-    ∙ ap (λ m. in_range (m *ℤ pos (10 ^ both.shift))) (to_z-of_z w128 all (search rules) ∙ ap₂ ◌+ℤ◌ one two)
+    ∙ ap (λ m. in_range (m *ℤ pos (10 ^ both.shift)))
+    (to_z-of_z w128 all (search rules) ∙ ap₂ ◌+ℤ◌ one two)
     ∙ sum_at both.one both.two c.args.one c.args.two both.shift is.one_is is.two_is

@@ -23,7 +23,8 @@ pub returns-then-size-ge-FAR : goal.returns-then-size-ge-FAR
 returns-then-size-ge-FAR c =
     let high = c.args.high in
     let low = c.args.low in
-    let is : c.in-Some.size ≡ high.size * 10 ^ (high.shift - low.shift) = omega (arith, c.in-Some.ensures) in
+    let is : c.in-Some.size ≡ high.size * 10 ^ (high.shift - low.shift) =
+    omega (arith, c.in-Some.ensures) in
     far_sum high.negative high.size high.shift low.negative low.size low.shift c.requires.above
     (omega arith) c.requires.low.few (λ end. c.if-low-eq0.false (c.requires.low.short end))
 
@@ -31,9 +32,11 @@ pub in_form-requires : goal.in_form-requires
 in_form-requires c =
     let high = c.args.high in
     let low = c.args.low in
-    let is : c.in-Some.size ≡ high.size * 10 ^ (high.shift - low.shift) = omega (arith, c.in-Some.ensures) in
+    let is : c.in-Some.size ≡ high.size * 10 ^ (high.shift - low.shift) =
+    omega (arith, c.in-Some.ensures) in
     let sum = c.signed_sum-negative in
-    last_kept sum.result.0 sum.result.1 high.negative c.in-Some.size low.negative low.size sum.ensures
+    last_kept sum.result.0 sum.result.1 high.negative c.in-Some.size low.negative low.size
+    sum.ensures
     (ends_with_nought high.size high.shift low.shift c.in-Some.size c.requires.above is)
     (λ end. c.if-low-eq0.false (c.requires.low.short end))
 
@@ -41,9 +44,11 @@ pub returns : goal.returns
 returns c =
     let high = c.args.high in
     let low = c.args.low in
-    let is : c.in-Some.size ≡ high.size * 10 ^ (high.shift - low.shift) = omega (arith, c.in-Some.ensures) in
+    let is : c.in-Some.size ≡ high.size * 10 ^ (high.shift - low.shift) =
+    omega (arith, c.in-Some.ensures) in
     let sum = c.signed_sum-negative in
     let same = to_z-of_z w32 c.from.result (search rules) ∙ c.from.ensures in
     rw same at c.in_form.ensures
-    ∙ uneven sum.result.0 sum.result.1 high.negative high.size high.shift c.in-Some.size low.negative low.size
+    ∙ uneven sum.result.0 sum.result.1 high.negative high.size high.shift c.in-Some.size
+    low.negative low.size
     low.shift c.requires.above is sum.ensures (λ end. c.if-low-eq0.false (c.requires.low.short end))

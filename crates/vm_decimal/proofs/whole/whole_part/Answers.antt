@@ -9,5 +9,6 @@ returns c =
     let parts = c.args.parts in
     c.whole_number.ensures
     ∙ ap (λ q. signed parts.negative (q * ones))
-    (cut_places c.args.away parts.size parts.shift (1000 - parts.shift) c.cut.result refl c.requires.low
+    (cut_places c.args.away parts.size parts.shift (1000 - parts.shift) c.cut.result refl
+    c.requires.low
     c.cut.ensures.value)

@@ -10,4 +10,5 @@ loop-posting-preserved c =
     let q = c.posting-item.result in
     c.in_ok-put_posting.ensures
     ∙ ap (λ bs. bs ++ concat (posting_fields q)) c.loop-posting.invariant
-    ∙ fields_more posting_fields (to_be_bytes w64 (length c.args.postings.now)) c.args.postings.now c.loop-posting.posting-index q c.loop-posting-test.true c.posting-item.is
+    ∙ fields_more posting_fields (to_be_bytes w64 (length c.args.postings.now)) c.args.postings.now
+    c.loop-posting.posting-index q c.loop-posting-test.true c.posting-item.is

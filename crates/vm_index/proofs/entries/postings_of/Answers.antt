@@ -9,5 +9,8 @@ returns c =
     c.from_vec.ensures
     ∙ c.in_ok-postings.ensures
     ∙ ap (λ es. gathered (map seen es)) c.deref.ensures.value
-    ∙ ap gathered (sorted_seen seen c.in_ok-entries.entries.items c.sort_unstable.new.self.items c.sort_unstable.ensures.permutation c.sort_unstable.ensures.sorted ∙ ap (sorted le_seen) c.in_ok-entries.ensures.entries)
+    ∙ ap gathered
+    (sorted_seen seen c.in_ok-entries.entries.items c.sort_unstable.new.self.items
+    c.sort_unstable.ensures.permutation c.sort_unstable.ensures.sorted
+    ∙ ap (sorted le_seen) c.in_ok-entries.ensures.entries)
     ∙ gathered_are c.args.sets.now c.in_ok-entries.ensures.labels

@@ -12,5 +12,7 @@ returns-clause-ok c =
       written = c.in-Ok.ensures.found.0;
       spelled = c.in-Ok.ensures.found.1;
       put = c.in_ok-push.ensures.ok;
-      labels = rw c.in_ok-push.ensures.ok (sets_more c.args.sets.now c.in-Ok.set c.requires.sets c.in-Ok.ensures.found.0 all);
+      labels =
+          rw c.in_ok-push.ensures.ok
+          (sets_more c.args.sets.now c.in-Ok.set c.requires.sets c.in-Ok.ensures.found.0 all);
     }

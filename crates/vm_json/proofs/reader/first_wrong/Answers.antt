@@ -10,7 +10,8 @@ no_place : (text : List ℕ) (o : Option ℕ) → o ≡ wrong_place text → IfN
 no_place text None is = json_there text (sym is)
 no_place text (Some at) is = tt
 
-a_place : (text : List ℕ) (o : Option ℕ) → o ≡ wrong_place text → IfSome o (λ at. FirstWrong IsJson text at)
+a_place : (text : List ℕ) (o : Option ℕ) → o ≡ wrong_place text
+    → IfSome o (λ at. FirstWrong IsJson text at)
 a_place text None is = tt
 a_place text (Some at) is = place_there text at (sym is)
 

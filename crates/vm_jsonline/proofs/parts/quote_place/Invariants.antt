@@ -4,4 +4,5 @@ use Rattle.vm_jsonline.specs.Parts.{quote_place}
 use Rattle.vm_jsonline.proofs.parts.quote_place.Given as goal
 
 abbrev pub invariant-loop-at : goal.invariant-loop-at
-invariant-loop-at l = quote_place false l.text ≡ option_map (λ k. l.at + k) (quote_place l.escaped (drop l.at l.text))
+invariant-loop-at l =
+    quote_place false l.text ≡ option_map (λ k. l.at + k) (quote_place l.escaped (drop l.at l.text))

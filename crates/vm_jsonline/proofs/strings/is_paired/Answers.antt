@@ -11,6 +11,7 @@ loop-byte-preserved c =
     let d = c.loop-byte.decoder in
     let next = c.next-given.result.0 in
     c.loop-byte.invariant
-    ∙ ap (λ t. is_some (text_from d.high (pieces d.pending t))) (next_drop text i c.loop-byte-test.true)
+    ∙ ap (λ t. is_some (text_from d.high (pieces d.pending t)))
+    (next_drop text i c.loop-byte-test.true)
     ∙ ap is_some (c.next-given.ensures (drop (i + 1) text))
     ∙ c.if-is_lone.ensures (text_from next.high (pieces next.pending (drop (i + 1) text)))

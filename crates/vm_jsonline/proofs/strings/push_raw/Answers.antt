@@ -13,10 +13,12 @@ returns-then-not-branch c =
     let front = c.loop-byte.bytes.items in
     let rest = text_from next.high (pieces next.pending (drop (i + 1) text)) in
     c.loop-byte.invariant
-    ∙ ap (λ t. option_map (λ u. front ++ u) (text_from d.high (pieces d.pending t))) (next_drop text i c.loop-byte-test.true)
+    ∙ ap (λ t. option_map (λ u. front ++ u) (text_from d.high (pieces d.pending t)))
+    (next_drop text i c.loop-byte-test.true)
     ∙ ap (option_map (λ u. front ++ u)) (c.next-given.ensures (drop (i + 1) text))
     ∙ c.in_ok-push_given.ensures rest
-    ∙ ap (λ b. cond b (option_map (λ u. c.push_given.new.bytes.items ++ u) rest) None) c.if-not-branch.true
+    ∙ ap (λ b. cond b (option_map (λ u. c.push_given.new.bytes.items ++ u) rest) None)
+    c.if-not-branch.true
 
 pub loop-byte-preserved : goal.loop-byte-preserved
 loop-byte-preserved c =
@@ -27,7 +29,9 @@ loop-byte-preserved c =
     let front = c.loop-byte.bytes.items in
     let rest = text_from next.high (pieces next.pending (drop (i + 1) text)) in
     c.loop-byte.invariant
-    ∙ ap (λ t. option_map (λ u. front ++ u) (text_from d.high (pieces d.pending t))) (next_drop text i c.loop-byte-test.true)
+    ∙ ap (λ t. option_map (λ u. front ++ u) (text_from d.high (pieces d.pending t)))
+    (next_drop text i c.loop-byte-test.true)
     ∙ ap (option_map (λ u. front ++ u)) (c.next-given.ensures (drop (i + 1) text))
     ∙ c.in_ok-push_given.ensures rest
-    ∙ ap (λ b. cond b (option_map (λ u. c.push_given.new.bytes.items ++ u) rest) None) c.if-not-branch.false
+    ∙ ap (λ b. cond b (option_map (λ u. c.push_given.new.bytes.items ++ u) rest) None)
+    c.if-not-branch.false

@@ -4,4 +4,5 @@ use Rattle.std.specs.List.{list_all}
 use Rattle.vm_jsonline.proofs.values.all_digits.Given as goal
 
 abbrev pub invariant-loop-byte : goal.invariant-loop-byte
-invariant-loop-byte l = list_all is_ascii_digit l.text ≡ list_all is_ascii_digit (drop l.byte-index l.text)
+invariant-loop-byte l =
+    list_all is_ascii_digit l.text ≡ list_all is_ascii_digit (drop l.byte-index l.text)

@@ -6,14 +6,18 @@ use Rattle.vm_jsonline.proofs.values.times_inside.Goals as goal
 pub returns-in_default : goal.returns-in_default
 returns-in_default c =
     c.loop-item.invariant
-    ∙ onto_end time_at c.loop-item.times _ (items_stop (length c.args.text.now - c.loop-item._item) c.loop-item.rest.now (sym c.in_default.ensures))
+    ∙ onto_end time_at c.loop-item.times
+    _ (items_stop (length c.args.text.now - c.loop-item._item) c.loop-item.rest.now
+    (sym c.in_default.ensures))
 
 pub returns-in_default-time_at : goal.returns-in_default-time_at
 returns-in_default-time_at c =
     let fuel = length c.args.text.now - c.loop-item._item in
     let less = length c.args.text.now - (c.loop-item._item + 1) in
     let next : fuel ≡ suc less = omega arith in
-    c.loop-item.invariant ∙ ap (onto time_at c.loop-item.times) (items_on fuel less c.loop-item.rest.now _ _ next (sym c.in-Some.ensures))
+    c.loop-item.invariant
+    ∙ ap (onto time_at c.loop-item.times)
+    (items_on fuel less c.loop-item.rest.now _ _ next (sym c.in-Some.ensures))
     ∙ onto_none time_at c.loop-item.times _ _ (sym c.in_default-time_at.ensures)
 
 pub loop-item-preserved : goal.loop-item-preserved
@@ -21,10 +25,14 @@ loop-item-preserved c =
     let fuel = length c.args.text.now - c.loop-item._item in
     let less = length c.args.text.now - (c.loop-item._item + 1) in
     let next : fuel ≡ suc less = omega arith in
-    c.loop-item.invariant ∙ ap (onto time_at c.loop-item.times) (items_on fuel less c.loop-item.rest.now _ _ next (sym c.in-Some.ensures))
-    ∙ onto_on time_at c.loop-item.times _ _ _ _ (sym c.in-Some-time_at.ensures) c.in_ok-push.ensures.ok
+    c.loop-item.invariant
+    ∙ ap (onto time_at c.loop-item.times)
+    (items_on fuel less c.loop-item.rest.now _ _ next (sym c.in-Some.ensures))
+    ∙ onto_on time_at c.loop-item.times _ _ _ _ (sym c.in-Some-time_at.ensures)
+    c.in_ok-push.ensures.ok
 
 pub returns : goal.returns
 returns c =
     c.loop-item.invariant
-    ∙ onto_end time_at c.loop-item.times _ (items_out (length c.args.text.now - c.loop-item._item) c.loop-item.rest.now (omega arith))
+    ∙ onto_end time_at c.loop-item.times
+    _ (items_out (length c.args.text.now - c.loop-item._item) c.loop-item.rest.now (omega arith))

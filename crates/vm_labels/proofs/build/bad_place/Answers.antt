@@ -6,4 +6,6 @@ use Rattle.vm_labels.specs.Labels.{is_badly_named}
 use Rattle.vm_labels.proofs.build.bad_place.Goals as goal
 
 pub returns : goal.returns
-returns c = position_from_yields_List is_badly_named _ _ _ c.position.ensures.ran (YieldsList-from_slice _ c.iter.ensures.rest) (λ x b q k. search (rules, tests))
+returns c =
+    position_from_yields_List is_badly_named _ _ _ c.position.ensures.ran
+    (YieldsList-from_slice _ c.iter.ensures.rest) (λ x b q k. search (rules, tests))

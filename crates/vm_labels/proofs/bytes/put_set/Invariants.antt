@@ -8,6 +8,7 @@ use Rattle.vm_labels.proofs.bytes.put_set.Given as goal
 
 abbrev pub invariant-loop-pair : goal.invariant-loop-pair
 invariant-loop-pair l = record {
-  bytes : l.out.items ≡ l.fn.out.items ++ (to_be_bytes w16 (length l.pairs) ++ flat_map pair_bytes (take l.pair-index l.pairs));
+  bytes : l.out.items ≡ l.fn.out.items
+      ++ (to_be_bytes w16 (length l.pairs) ++ flat_map pair_bytes (take l.pair-index l.pairs));
   texts : AllByRecursion (λ p. IsUtf8 p.value) (take l.pair-index l.pairs);
 }

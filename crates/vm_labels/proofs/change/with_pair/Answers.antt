@@ -8,4 +8,5 @@ use Rattle.vm_labels.proofs.change.with_pair.Goals as goal
 pub returns : goal.returns
 returns c =
     sorted_from_pair_sort _ _ c.sort_unstable.ensures.permutation c.sort_unstable.ensures.sorted
-    ∙ ap (sorted is_in_pair_order) c.in_ok-push.ensures.items ∙ sorted_last c.args.pair c.args.pairs.items
+    ∙ ap (sorted is_in_pair_order) c.in_ok-push.ensures.items
+    ∙ sorted_last c.args.pair c.args.pairs.items

@@ -5,7 +5,8 @@ use Rattle.vm_labels.proofs.text.put_escaped.Given as goal
 
 abbrev pub invariant-runs : goal.invariant-runs
 invariant-runs l = record {
-  done : l.out.items ++ flat_map escaped_byte l.rest ≡ l.fn.out.items ++ flat_map escaped_byte l.value;
+  done : l.out.items ++ flat_map escaped_byte l.rest ≡ l.fn.out.items
+      ++ flat_map escaped_byte l.value;
   kept : take (length l.fn.out.items) l.out.items ≡ l.fn.out.items;
 }
 

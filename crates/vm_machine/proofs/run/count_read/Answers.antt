@@ -11,7 +11,9 @@ loop-i-preserved g c =
     let old = c.index_mut.result.now in
     let f = read_more c.args.number in
     let value : c.count_one.new.run ≡ f (slice_index_or xs i old) =
-    c.count_one.ensures ∙ ap f c.index_mut.ensures.value ∙ ap (λ runs. f (slice_index_or runs i old)) c.loop-i.invariant ∙ ap f (still_there f xs i old within) in
+    c.count_one.ensures ∙ ap f c.index_mut.ensures.value
+    ∙ ap (λ runs. f (slice_index_or runs i old)) c.loop-i.invariant
+    ∙ ap f (still_there f xs i old within) in
     ap (λ runs. slice_set runs i c.count_one.new.run) c.loop-i.invariant
     ∙ ap (λ run. slice_set (map f (take i xs) ++ drop i xs) i run) value
     ∙ changed_one f xs i old within

@@ -9,9 +9,12 @@ pub returns-in_err-test_of-clause-answer : goal.returns-in_err-test_of-clause-an
 returns-in_err-test_of-clause-answer g c =
     let at = c.loop-filter in
     let filter = c.filter-item in
-    stops_at g.P.Patterns.IsPattern (λ f. pattern_in f.op f.value) c.args.filters.now at.filter-index
-    filter.result filter.result _ _ _ c.in_err-test_of.field-0.0 c.from_residual-in_err-test_of.result
-    c.from_residual-in_err-test_of.ensures.1 c.loop-filter-test.true filter.is at.invariant.1 at.invariant.2
+    stops_at g.P.Patterns.IsPattern (λ f. pattern_in f.op f.value) c.args.filters.now
+    at.filter-index
+    filter.result filter.result _ _ _ c.in_err-test_of.field-0.0
+    c.from_residual-in_err-test_of.result
+    c.from_residual-in_err-test_of.ensures.1 c.loop-filter-test.true filter.is at.invariant.1
+    at.invariant.2
     c.in_err-test_of.ensures.answer
 
 pub loop-filter-preserved : goal.loop-filter-preserved
@@ -21,7 +24,8 @@ loop-filter-preserved g c =
       same_more (kept g.P.Built.Pattern.text) asked _ _ c.args.filters.now at.filter-index _
           filter.result filter.result c.loop-filter-test.true filter.is at.invariant.0
           c.in_ok-push.ensures.ok c.in_ok-test_of.ensures.built,
-      good_more g.P.Patterns.IsPattern (λ f. pattern_in f.op f.value) c.args.filters.now at.filter-index
+      good_more g.P.Patterns.IsPattern (λ f. pattern_in f.op f.value) c.args.filters.now
+          at.filter-index
           filter.result filter.result c.loop-filter-test.true filter.is at.invariant.1
           c.in_ok-test_of.ensures.answer,
       omega (arith, at.invariant.2, c.test_of.ensures.counted),

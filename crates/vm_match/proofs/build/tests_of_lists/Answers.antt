@@ -10,9 +10,11 @@ returns-in_err-tests_of-clause-answer g c =
     let at = c.loop-filters in
     let filters = c.as_slice.result.now in
     let is = c.as_slice.ensures ∙ c.filters-item.is in
-    stops_at g.P.Patterns.IsPattern patterns_in c.args.lists.now at.filters-index filters c.filters-item.result
+    stops_at g.P.Patterns.IsPattern patterns_in c.args.lists.now at.filters-index filters
+    c.filters-item.result
     _ _ _ c.in_err-tests_of.field-0.0 c.from_residual-in_err-tests_of.result
-    c.from_residual-in_err-tests_of.ensures.1 c.loop-filters-test.true is at.invariant.1 at.invariant.2
+    c.from_residual-in_err-tests_of.ensures.1 c.loop-filters-test.true is at.invariant.1
+    at.invariant.2
     c.in_err-tests_of.ensures.answer
 
 pub loop-filters-preserved : goal.loop-filters-preserved
@@ -20,10 +22,13 @@ loop-filters-preserved g c =
     let at = c.loop-filters in
     let filters = c.as_slice.result.now in
     let is = c.as_slice.ensures ∙ c.filters-item.is in (
-      same_more (λ list. map (kept g.P.Built.Pattern.text) list.items) (map asked) _ _ c.args.lists.now
-          at.filters-index _ filters c.filters-item.result c.loop-filters-test.true is at.invariant.0
+      same_more (λ list. map (kept g.P.Built.Pattern.text) list.items) (map asked)
+          _ _ c.args.lists.now
+          at.filters-index _ filters c.filters-item.result c.loop-filters-test.true is
+          at.invariant.0
           c.in_ok-push.ensures.ok c.in_ok-tests_of.ensures.built,
-      good_more g.P.Patterns.IsPattern patterns_in c.args.lists.now at.filters-index filters c.filters-item.result
+      good_more g.P.Patterns.IsPattern patterns_in c.args.lists.now at.filters-index filters
+          c.filters-item.result
           c.loop-filters-test.true is at.invariant.1 c.in_ok-tests_of.ensures.answer,
       omega (arith, at.invariant.2, c.tests_of.ensures.counted),
     )

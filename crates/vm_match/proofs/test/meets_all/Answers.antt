@@ -13,17 +13,20 @@ is_met-requires g c = record {
 
 pub returns-in_err-is_met-clause-kept : goal.returns-in_err-is_met-clause-kept
 returns-in_err-is_met-clause-kept g c =
-    same_written (kept g.M.Pattern.text) c.loop-at.tests c.loop-at.at c.is_met.new.test c.index-tests-at.result _
+    same_written (kept g.M.Pattern.text) c.loop-at.tests c.loop-at.at c.is_met.new.test
+    c.index-tests-at.result _
     c.is_met.ensures.kept (c.loop-at.invariant.0 ∙ sym c.requires.built)
 
 pub returns-then-not-branch-clause-kept : goal.returns-then-not-branch-clause-kept
 returns-then-not-branch-clause-kept g c =
-    same_written (kept g.M.Pattern.text) c.loop-at.tests c.loop-at.at c.is_met.new.test c.index-tests-at.result _
+    same_written (kept g.M.Pattern.text) c.loop-at.tests c.loop-at.at c.is_met.new.test
+    c.index-tests-at.result _
     c.is_met.ensures.kept (c.loop-at.invariant.0 ∙ sym c.requires.built)
 
 pub loop-at-preserved : goal.loop-at-preserved
 loop-at-preserved g c = (
-  same_written (kept g.M.Pattern.text) c.loop-at.tests c.loop-at.at c.is_met.new.test c.index-tests-at.result _
+  same_written (kept g.M.Pattern.text) c.loop-at.tests c.loop-at.at c.is_met.new.test
+      c.index-tests-at.result _
       c.is_met.ensures.kept c.loop-at.invariant.0,
   all_more (λ f. meets g.M.Pattern.matches f c.args.labels.now) c.args.filters.now c.loop-at.at
       c.index-filters-at.result c.index-filters-at.result c.in_ok-is_met.field-0 c.loop-at-test.true

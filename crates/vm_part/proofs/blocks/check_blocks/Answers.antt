@@ -10,7 +10,12 @@ abbrev nought : Entry
 nought = record { start = 0; blocks = 0; rows = 0; first_time = 0; last_time = 0 }
 
 pub series-init : goal.series-init
-series-init c = record { rise = c.requires.places; breaks = λ at breaks. breaks; stands = λ others stand. record { blocks = others; stand = stand } }
+series-init c =
+    record {
+      rise = c.requires.places;
+      breaks = λ at breaks. breaks;
+      stands = λ others stand. record { blocks = others; stand = stand };
+    }
 
 pub check_series-requires-clause-start : goal.check_series-requires-clause-start
 check_series-requires-clause-start c =
@@ -18,7 +23,9 @@ check_series-requires-clause-start c =
     let place = c.series.place in
     let within = c.series-test.true in
     let e = get_or es place nought in
-    let rise = rise_here c.args.bytes.now c.args.entries_at es place e within (get_or_default es place e nought within) c.series.invariant.rise in
+    let rise =
+    rise_here c.args.bytes.now c.args.entries_at es place e within
+    (get_or_default es place e nought within) c.series.invariant.rise in
     omega (arith, rise.0, c.end_of-end.ensures)
 
 pub check_series-requires-clause-end : goal.check_series-requires-clause-end
@@ -27,7 +34,9 @@ check_series-requires-clause-end c =
     let place = c.series.place in
     let within = c.series-test.true in
     let e = get_or es place nought in
-    let rise = rise_here c.args.bytes.now c.args.entries_at es place e within (get_or_default es place e nought within) c.series.invariant.rise in
+    let rise =
+    rise_here c.args.bytes.now c.args.entries_at es place e within
+    (get_or_default es place e nought within) c.series.invariant.rise in
     omega (arith, rise.1, c.end_of-end.ensures)
 
 pub returns-in_err-check_series-clause-broken : goal.returns-in_err-check_series-clause-broken
@@ -37,8 +46,11 @@ returns-in_err-check_series-clause-broken c =
     let within = c.series-test.true in
     let e = get_or es place nought in
     let p = err_from_is_err_and c.from_residual.result c.from_residual.ensures.1 in
-    rw (p.1, p.2) (breaks_here c.args.bytes.now c.args.entries_at es place e within (get_or_default es place e nought within) c.end_of-end.result
-    c.in_err-check_series.field-0.0 c.end_of-end.ensures c.in_err-check_series.ensures.broken c.series.invariant.breaks)
+    rw (p.1, p.2)
+    (breaks_here c.args.bytes.now c.args.entries_at es place e within
+    (get_or_default es place e nought within) c.end_of-end.result
+    c.in_err-check_series.field-0.0 c.end_of-end.ensures c.in_err-check_series.ensures.broken
+    c.series.invariant.breaks)
 
 pub series-preserved : goal.series-preserved
 series-preserved c =
@@ -52,10 +64,15 @@ series-preserved c =
     let has = c.in_ok-check_series.ensures.stand in
     record {
       rise = (rise_here bytes entries es place e within is c.series.invariant.rise).2;
-      breaks = later_breaks bytes entries es place e within is c.end_of-end.result c.end_of-end.ensures has c.series.invariant.breaks;
-      stands = stands_here bytes entries es place e within is c.end_of-end.result c.end_of-end.ensures has c.series.invariant.stands;
+      breaks =
+          later_breaks bytes entries es place e within is c.end_of-end.result c.end_of-end.ensures
+          has c.series.invariant.breaks;
+      stands =
+          stands_here bytes entries es place e within is c.end_of-end.result c.end_of-end.ensures
+          has c.series.invariant.stands;
     }
 
 pub returns-clause-stand : goal.returns-clause-stand
 returns-clause-stand c =
-    all_stand c.args.bytes.now c.args.entries_at c.args.entries.now c.series.place c.series-test.false c.series.invariant.stands
+    all_stand c.args.bytes.now c.args.entries_at c.args.entries.now c.series.place
+    c.series-test.false c.series.invariant.stands

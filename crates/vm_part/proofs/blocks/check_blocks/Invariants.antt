@@ -8,7 +8,9 @@ use Rattle.vm_part.proofs.blocks.check_blocks.Given as goal
 abbrev pub invariant-series : goal.invariant-series
 invariant-series l = record {
   rise : PlacesRise l.entries_at (drop l.place l.entries);
-  breaks : (at : ℕ) → SomeBreaks l.bytes l.entries_at (drop l.place l.entries) at → SomeBreaks l.bytes l.entries_at l.entries at;
-  stands : (others : List (List Block)) → AllStand l.bytes l.entries_at (drop l.place l.entries) others
+  breaks : (at : ℕ) → SomeBreaks l.bytes l.entries_at (drop l.place l.entries) at
+      → SomeBreaks l.bytes l.entries_at l.entries at;
+  stands : (others : List (List Block))
+      → AllStand l.bytes l.entries_at (drop l.place l.entries) others
       → HasAllBlocks l.bytes l.entries_at l.entries;
 }

@@ -21,7 +21,8 @@ keep-requires c =
     (subst (λ xs. ArePut xs before written said) c.as_slice.ensures c.in_ok-entries.ensures)
     (c.in_ok-index.ensures ∙ c.in_ok-sets.ensures) c.in_ok-put_sections.ensures.sets
     (c.in_ok-rows.ensures ∙ ap (sum_by (λ (entry : Entry). entry.rows)) c.as_slice-2.ensures)
-    (c.in_ok-put_sections.ensures.bytes ∙ ap (λ es. with_sections written es sets many rows) c.as_slice-3.ensures)
+    (c.in_ok-put_sections.ensures.bytes
+    ∙ ap (λ es. with_sections written es sets many rows) c.as_slice-3.ensures)
     (omega arith) (omega arith))
 
 pub returns : goal.returns
@@ -38,5 +39,6 @@ returns c =
     (subst (λ xs. ArePut xs before written said) c.as_slice.ensures c.in_ok-entries.ensures)
     (c.in_ok-index.ensures ∙ c.in_ok-sets.ensures) c.in_ok-put_sections.ensures.sets
     (c.in_ok-rows.ensures ∙ ap (sum_by (λ (entry : Entry). entry.rows)) c.as_slice-2.ensures)
-    (c.in_ok-put_sections.ensures.bytes ∙ ap (λ es. with_sections written es sets many rows) c.as_slice-3.ensures)
+    (c.in_ok-put_sections.ensures.bytes
+    ∙ ap (λ es. with_sections written es sets many rows) c.as_slice-3.ensures)
     (omega arith) (omega arith))

@@ -20,7 +20,8 @@ returns-clause-bytes c =
     let at : m ≡ length before = omega (arith, c.len-entries_at.ensures) in
     let table_at : n ≡ length one = omega (arith, c.len-table_at.ensures) in
     let postings_at : p ≡ length two = omega (arith, c.len-postings_at.ensures) in
-    IfOk-weaker c.put_footer.result (λ _. after ≡ three ++ footer_bytes (footer_with m n p many c.args.rows))
+    IfOk-weaker c.put_footer.result
+    (λ _. after ≡ three ++ footer_bytes (footer_with m n p many c.args.rows))
     (λ _. after ≡ with_sections before c.args.entries.now sets (length sets) c.args.rows)
     (λ _ is. sections_put before one two three after c.args.entries.now sets m n p many c.args.rows
     c.in_ok-put_entries.ensures

@@ -14,6 +14,9 @@ loop-one-preserved c =
     let series = c.args.series.now in
     let before = c.args.out.now.items in
     let after = c.put_blocks.new.out.items in
-    subst (λ entries. ArePut (take (c.loop-one.one-index + 1) series) before after entries) (sym c.in_ok-push.ensures.ok)
-    (one_put series c.loop-one.one-index c.one-item.result c.as_slice.result.now before c.loop-one.out.items after c.loop-one.entries c.in_ok-entry.entry
-    c.loop-one-test.true c.one-item.is c.as_slice.ensures c.loop-one.invariant c.in_ok-entry.ensures)
+    subst (λ entries. ArePut (take (c.loop-one.one-index + 1) series) before after entries)
+    (sym c.in_ok-push.ensures.ok)
+    (one_put series c.loop-one.one-index c.one-item.result c.as_slice.result.now before
+    c.loop-one.out.items after c.loop-one.entries c.in_ok-entry.entry
+    c.loop-one-test.true c.one-item.is c.as_slice.ensures c.loop-one.invariant
+    c.in_ok-entry.ensures)

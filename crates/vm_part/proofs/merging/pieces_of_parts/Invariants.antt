@@ -9,4 +9,5 @@ use Rattle.vm_part.proofs.merging.pieces_of_parts.Given as goal
 abbrev pub invariant-loop-at : goal.invariant-loop-at
 invariant-loop-at l =
     (alls : List (List Stored)) → AllZip SaysAll (map (λ part. part.value) l.parts) alls
-    → l.read ≡ map (map samples_of) alls → flat_map rows_of_piece l.pieces.items ≡ flat_map rows_in (take l.at alls)
+    → l.read ≡ map (map samples_of) alls
+    → flat_map rows_of_piece l.pieces.items ≡ flat_map rows_in (take l.at alls)

@@ -8,5 +8,7 @@ loop-at-preserved c =
     let at = c.loop-at.at in
     let len = at + 1 - at in
     let one : len ≡ 1 = omega arith in
-    one_row c.loop-at.pieces.items c.push.new.self.items c.piece_of-piece.result c.args.batch.now c.args.samples.now at len c.index-batch-at.result
-    c.loop-at-test.true c.requires one c.piece_of-piece.ensures.labels c.piece_of-piece.ensures.samples c.in_ok-push.ensures.items c.loop-at.invariant
+    one_row c.loop-at.pieces.items c.push.new.self.items c.piece_of-piece.result c.args.batch.now
+    c.args.samples.now at len c.index-batch-at.result
+    c.loop-at-test.true c.requires one c.piece_of-piece.ensures.labels
+    c.piece_of-piece.ensures.samples c.in_ok-push.ensures.items c.loop-at.invariant

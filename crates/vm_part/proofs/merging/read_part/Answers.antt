@@ -11,7 +11,8 @@ read_blocks-requires c =
     let entry = c.entry-said.result in
     let ordinal = c.loop-ordinal.ordinal in
     blocks_there bytes entry says.all ordinal
-    (standing c.args.part.now says.all ordinal entry bytes says.said.bytes says.said.entries c.image-bytes.ensures.bytes c.entry-said.ensures)
+    (standing c.args.part.now says.all ordinal entry bytes says.said.bytes says.said.entries
+    c.image-bytes.ensures.bytes c.entry-said.ensures)
 
 pub loop-ordinal-preserved : goal.loop-ordinal-preserved
 loop-ordinal-preserved c = λ all is entries.
@@ -19,6 +20,10 @@ loop-ordinal-preserved c = λ all is entries.
     let entry = c.entry-said.result in
     let ordinal = c.loop-ordinal.ordinal in
     let samples = c.in_ok-samples.samples in
-    let at = standing c.args.part.now all ordinal entry bytes is entries c.image-bytes.ensures.bytes c.entry-said.ensures in
-    c.in_ok-push.ensures.ok ∙ ap (λ xs. xs ++ samples ∷ []) (c.loop-ordinal.invariant all is entries)
-    ∙ sym (taken (map samples_of all) ordinal samples (series_read bytes entry all ordinal samples at c.in_ok-samples.ensures))
+    let at =
+    standing c.args.part.now all ordinal entry bytes is entries c.image-bytes.ensures.bytes
+    c.entry-said.ensures in
+    c.in_ok-push.ensures.ok
+    ∙ ap (λ xs. xs ++ samples ∷ []) (c.loop-ordinal.invariant all is entries)
+    ∙ sym (taken (map samples_of all) ordinal samples
+    (series_read bytes entry all ordinal samples at c.in_ok-samples.ensures))

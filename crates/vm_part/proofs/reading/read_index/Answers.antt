@@ -16,9 +16,17 @@ returns-in-Err-BrokenPostings-clause-broken c =
 pub overflow_add-in_table : goal.overflow_add-in_table
 overflow_add-in_table c =
     let fault = rw c.in-Err-BrokenTable.field-0-is at c.in-Err-BrokenTable.ensures.broken in
-    omega (arith, table_place c.args.at c.args.bytes.now c.args.footer.now c.in-Err-BrokenTable.at c.requires fault)
+    omega (
+      arith,
+      table_place c.args.at c.args.bytes.now c.args.footer.now c.in-Err-BrokenTable.at c.requires
+          fault,
+    )
 
 pub overflow_add-in_postings : goal.overflow_add-in_postings
 overflow_add-in_postings c =
     let fault = rw c.in-Err-BrokenPostings.field-0-is at c.in-Err-BrokenPostings.ensures.broken in
-    omega (arith, postings_place c.args.at c.args.bytes.now c.args.footer.now c.in-Err-BrokenPostings.at c.requires fault)
+    omega (
+      arith,
+      postings_place c.args.at c.args.bytes.now c.args.footer.now c.in-Err-BrokenPostings.at
+          c.requires fault,
+    )

@@ -4,4 +4,5 @@ use Rattle.vm_block.proofs.Rereading.{header_len}
 use Rattle.vm_part.proofs.series.header_at.Goals as goal
 
 pub copy_from_slice-requires : goal.copy_from_slice-requires
-copy_from_slice-requires c = omega (arith, ap length c.requires.spelled, header_len c.requires.header)
+copy_from_slice-requires c =
+    omega (arith, ap length c.requires.spelled, header_len c.requires.header)

@@ -9,4 +9,5 @@ never fault at broken memory = cc
 
 pub unreachable-requires : goal.unreachable-requires
 unreachable-requires c =
-    never c.in-Err-Broken.field-0 c.in-Err-Broken.field-0-0 c.in-Err-Broken.field-0-is (c.in-Err-Broken.ensures.only c.requires.0 c.requires.1)
+    never c.in-Err-Broken.field-0 c.in-Err-Broken.field-0-0 c.in-Err-Broken.field-0-is
+    (c.in-Err-Broken.ensures.only c.requires.0 c.requires.1)

@@ -9,7 +9,9 @@ returns-in-Ok-clause-ok c =
 pub returns-in-Err-Syntax-clause-syntax : goal.returns-in-Err-Syntax-clause-syntax
 returns-in-Err-Syntax-clause-syntax c =
     let made = c.in-Err-Syntax.ensures in
-    λ _ short. is_no_expression _ _ (made.by_grammar _ c.in-Err-Syntax.field-0-is) (rw c.in-Err-Syntax.field-0-is at made.kind) short
+    λ _ short.
+    is_no_expression _ _ (made.by_grammar _ c.in-Err-Syntax.field-0-is)
+    (rw c.in-Err-Syntax.field-0-is at made.kind) short
 
 pub returns-in-Err-CompiledTooBig-clause-refused :
     goal.returns-in-Err-CompiledTooBig-clause-refused

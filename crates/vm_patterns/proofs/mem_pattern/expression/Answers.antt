@@ -12,5 +12,8 @@ returns-clause-ok c = elim c.match-parse.branch [
 pub returns-clause-syntax : goal.returns-clause-syntax
 returns-clause-syntax c = elim c.match-parse.branch [
   | in-Ok w ↦ λ fault. absurd (ok_is_no_syntax _ (rw w.result-is at fault))
-  | in-Err w ↦ λ fault. is_no_expression _ _ (rw c.default.ensures at w.in-Err.ensures.err) (not_of_syntax _ _ w.fault_of.ensures.memory (rw w.result-is at fault))
+  | in-Err w ↦
+      λ fault.
+      is_no_expression _ _ (rw c.default.ensures at w.in-Err.ensures.err)
+      (not_of_syntax _ _ w.fault_of.ensures.memory (rw w.result-is at fault))
 ]

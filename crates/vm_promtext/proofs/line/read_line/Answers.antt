@@ -6,7 +6,8 @@ use Rattle.vm_promtext.specs.declared.line.Line.{Line}
 use Rattle.vm_promtext.proofs.LineLaws.{all_mean}
 use Rattle.vm_promtext.proofs.line.read_line.Goals as goal
 
-all_ok : {E : Type 0} (now : ℕ) (line : List ℕ) (r : Result Line E) → IfOk r (λ said. said ≡ reading now line) → IfOk r (IsReading now line)
+all_ok : {E : Type 0} (now : ℕ) (line : List ℕ) (r : Result Line E)
+    → IfOk r (λ said. said ≡ reading now line) → IfOk r (IsReading now line)
 all_ok now line (Ok said) is = all_mean now line said is
 all_ok now line (Err e) is = tt
 

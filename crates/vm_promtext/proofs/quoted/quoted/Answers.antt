@@ -9,4 +9,6 @@ returns-in-Ok c =
 
 pub returns-in-Err : goal.returns-in-Err
 returns-in-Err c =
-    rw c.wrong_in-in-Err.ensures (quoted_broken c.args.text.now c.in-Some.end c.in-Some.ensures.value c.in-Err.ensures.cases.0)
+    rw c.wrong_in-in-Err.ensures
+    (quoted_broken c.args.text.now c.in-Some.end c.in-Some.ensures.value
+    c.in-Err.ensures.cases.0)

@@ -4,5 +4,7 @@ use Rattle.vm_script.proofs.expression.behind.Goals as goal
 
 pub returns : goal.returns
 returns c =
-    let cases = strip_prefix_char c.args.first c.args.text.now c.strip_prefix.result c.strip_prefix.ensures.cases c.requires.ascii in
+    let cases =
+    strip_prefix_char c.args.first c.args.text.now c.strip_prefix.result
+    c.strip_prefix.ensures.cases c.requires.ascii in
     stripped c.args.first c.args.text.now c.strip_prefix.result cases c.requires.some

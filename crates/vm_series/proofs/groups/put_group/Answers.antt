@@ -14,8 +14,10 @@ returns-then-is_empty c =
     let many : length c.in_ok-samples.samples.items ≡ length (samples_of group) =
     ap length c.in_ok-samples.ensures ∙ length-sorted is_in_order (samples_of group) in
     let counted : vec_len c.in_ok-samples.samples ≡ 0 = grind (arith, nat_tests) in
-    let none : length (samples_of group) ≡ 0 = omega (arith, many, counted, c.in_ok-samples.samples.ok.0) in
-    sym (ap (λ s. c.args.all.now ++ s) (series-none c.args.interval group none) ∙ append-nil c.args.all.now)
+    let none : length (samples_of group) ≡ 0 =
+    omega (arith, many, counted, c.in_ok-samples.samples.ok.0) in
+    sym (ap (λ s. c.args.all.now ++ s) (series-none c.args.interval group none)
+    ∙ append-nil c.args.all.now)
 
 pub returns : goal.returns
 returns c =
@@ -23,9 +25,11 @@ returns c =
     let many : length c.in_ok-samples.samples.items ≡ length (samples_of group) =
     ap length c.in_ok-samples.ensures ∙ length-sorted is_in_order (samples_of group) in
     let counted : 0 < vec_len c.in_ok-samples.samples = grind (arith, nat_tests) in
-    let some : 0 < length (samples_of group) = omega (arith, many, counted, c.in_ok-samples.samples.ok.0) in
+    let some : 0 < length (samples_of group) =
+    omega (arith, many, counted, c.in_ok-samples.samples.ok.0) in
     IfOk-equal c.push.result c.push.new.self _ _ c.push.ensures.ok
     (ap (λ s. c.args.all.now ++ s)
     (ap₂ (λ l s. record { labels = l; samples = s } ∷ []) c.in_ok-copied.ensures
-    (c.in_ok-thinned.ensures ∙ ap (thinned c.args.interval) (c.deref.ensures.value ∙ c.in_ok-samples.ensures))
+    (c.in_ok-thinned.ensures
+    ∙ ap (thinned c.args.interval) (c.deref.ensures.value ∙ c.in_ok-samples.ensures))
     ∙ sym (series-one c.args.interval c.args.labels.now group c.requires some)))

@@ -8,7 +8,8 @@ use Rattle.vm_top.proofs.act.begin_query.Goals as goal
 pub returns-then-is_open-clause-answers : goal.returns-then-is_open-clause-answers
 returns-then-is_open-clause-answers c = λ text is.
     let machine = c.args.machine.now in
-    let some : is_some (run_of c.args.run machine.runs) ≡ true = sym c.is_open.ensures ∙ c.if-is_open.true in
+    let some : is_some (run_of c.args.run machine.runs) ≡ true = sym c.is_open.ensures
+    ∙ c.if-is_open.true in
     asks_taken machine c.args.run (question_of c.args.time c.args.expression.now) text some is
 
 pub returns-in-Err-clause-answers : goal.returns-in-Err-clause-answers
@@ -16,4 +17,5 @@ returns-in-Err-clause-answers c = λ text is.
     let machine = c.args.machine.now in
     let free : run_of c.args.run machine.runs ≡ None =
     none_there (run_of c.args.run machine.runs) (sym c.is_open.ensures ∙ c.if-is_open.false) in
-    asks_without_memory machine c.args.run (question_of c.args.time c.args.expression.now) text free is
+    asks_without_memory machine c.args.run (question_of c.args.time c.args.expression.now) text free
+    is

@@ -16,14 +16,17 @@ loop-batch-preserved c =
     record {
       items = append_assoc at.yielded (c.in-Some.batch ∷ []) (into_iter_items c.next.new.self)
           ∙ ap (λ rest. at.yielded ++ rest) (sym c.in-Some.ensures.steps.0) ∙ at.invariant.items;
-      accepts = next_batch c.args.machine.now at.machine c.import.new.self at.yielded c.in-Some.batch
+      accepts =
+          next_batch c.args.machine.now at.machine c.import.new.self at.yielded c.in-Some.batch
           at.invariant.accepts c.in_ok-import.ensures;
     }
 
 pub returns-in_err-import-clause-refused : goal.returns-in_err-import-clause-refused
 returns-in_err-import-clause-refused c =
     let at = c.loop-batch in
-    let refuses : Refuses c.args.machine.now c.args.batches c.import.new.self c.in_err-import.field-0.0 = record {
+    let refuses :
+    Refuses c.args.machine.now c.args.batches c.import.new.self c.in_err-import.field-0.0 =
+    record {
       first = at.yielded;
       batch = c.in-Some.batch;
       more = into_iter_items c.next.new.self;
@@ -32,5 +35,6 @@ returns-in_err-import-clause-refused c =
       accepts = at.invariant.accepts;
       steps = c.in_err-import.ensures;
     } in
-    at_err (λ result. IfErr result (λ why. Refuses c.args.machine.now c.args.batches c.import.new.self why))
+    at_err (λ result.
+    IfErr result (λ why. Refuses c.args.machine.now c.args.batches c.import.new.self why))
     c.from_residual.result c.in_err-import.field-0.0 c.from_residual.ensures.1 refuses

@@ -9,12 +9,15 @@ returns-in-Ok-clause-answers c = λ passed gathers text prints.
     let rows = c.rows-rows.result in
     let skipped = c.skipped-skipped.result in
     let all = c.in_ok-all.all in
-    imported c.args.body passed c.args.machine.now c.import_all.new.machine all text gathers c.in_ok-all.ensures c.in-Ok.ensures.all
+    imported c.args.body passed c.args.machine.now c.import_all.new.machine all text gathers
+    c.in_ok-all.ensures c.in-Ok.ensures.all
     (prints ∙ ap (λ n. accepted_line n rows skipped) c.len-batches.ensures
-    ∙ ap (λ n. accepted_line (length all) n skipped) (c.rows-rows.ensures ∙ ap row_count (sym c.in_ok-all.ensures))
+    ∙ ap (λ n. accepted_line (length all) n skipped)
+    (c.rows-rows.ensures ∙ ap row_count (sym c.in_ok-all.ensures))
     ∙ ap (accepted_line (length all) (row_count all)) c.skipped-skipped.ensures)
 
 pub returns-in-Err-clause-answers : goal.returns-in-Err-clause-answers
 returns-in-Err-clause-answers c = λ passed gathers text prints.
-    refused_body c.args.body passed c.args.machine.now c.import_all.new.machine c.in_ok-all.all c.in-Err.why text
+    refused_body c.args.body passed c.args.machine.now c.import_all.new.machine c.in_ok-all.all
+    c.in-Err.why text
     gathers c.in_ok-all.ensures c.in-Err.ensures.refused prints

@@ -17,8 +17,13 @@ returns-in-Some-Replay-clause-done g c =
     let output = c.args.output.now in
     let read = c.play.new.input in
     let written = c.play.new.output in
-    subst (λ task. IsDoneBy task (outcome c.play.result) (world clock (left input) (faults input) (taken output) (lost output))
+    subst (λ task.
+    IsDoneBy task (outcome c.play.result)
+    (world clock (left input) (faults input) (taken output) (lost output))
     (world clock (left read) (faults read) (taken written) (lost written)))
-    (ap (option_map task_of) (ap Some (sym c.in-Some-Replay.field-0-is) ∙ sym c.in-Some-Replay.is) ∙ c.asked.ensures.value)
-    (replay_done c.play.result clock (left input) (left read) (taken output) (taken written) (faults input) (faults read) (lost output) (lost written)
-    c.play.ensures.ends c.play.ensures.read c.play.ensures.known c.play.ensures.input_fault c.play.ensures.output_fault)
+    (ap (option_map task_of) (ap Some (sym c.in-Some-Replay.field-0-is) ∙ sym c.in-Some-Replay.is)
+    ∙ c.asked.ensures.value)
+    (replay_done c.play.result clock (left input) (left read) (taken output) (taken written)
+    (faults input) (faults read) (lost output) (lost written)
+    c.play.ensures.ends c.play.ensures.read c.play.ensures.known c.play.ensures.input_fault
+    c.play.ensures.output_fault)

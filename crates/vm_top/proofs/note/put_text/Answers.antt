@@ -13,4 +13,5 @@ returns-in-BadLine-clause-text c =
 
 pub returns-in-Output-clause-text : goal.returns-in-Output-clause-text
 returns-in-Output-clause-text c =
-    c.put-in-Output.ensures ∙ ap (λ fault. c.args.note.now.items ++ text_of fault) (sym c.in-Output.is)
+    c.put-in-Output.ensures
+    ∙ ap (λ fault. c.args.note.now.items ++ text_of fault) (sym c.in-Output.is)

@@ -9,7 +9,9 @@ invariant-lines g l =
     let left = g.S.Source.left in
     let taken = g.K.Sink.taken in
     record {
-      played : HasPlayed l.machine l.lines (left l.initial.input) (left l.input) (taken l.initial.output) (taken l.output);
+      played :
+          HasPlayed l.machine l.lines (left l.initial.input) (left l.input) (taken l.initial.output)
+          (taken l.output);
       over : GoesOver first_place l.lines (left l.initial.input) (left l.input);
       knows : KnowsEnd l.lines.reading (left l.input);
       takes : Takes first_place l.lines (left l.initial.input) (left l.input);

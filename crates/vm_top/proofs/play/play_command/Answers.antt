@@ -12,7 +12,8 @@ returns-in-Query-clause-plays g c = λ text prints.
     let lines = c.args.lines.now in
     let left = g.S.Source.left c.args.input.now in
     let run = c.in-Query.run' in
-    subst (λ command. PlaysCommand command before now lines lines left left text) (sym c.in-Query.is) (record {
+    subst (λ command. PlaysCommand command before now lines lines left left text)
+    (sym c.in-Query.is) (record {
       body = [];
       has = refl;
       does = subst (λ expression. Asks run (question_of c.in-Query.time expression) before now text)

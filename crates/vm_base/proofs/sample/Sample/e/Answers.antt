@@ -5,4 +5,5 @@ use Rattle.vm_base.proofs.sample.Sample.e.Goals as goal
 
 pub returns-clause-value : goal.returns-clause-value
 returns-clause-value c =
-    omega (arith, ints) ∙ sym (exponent_is c.self.inside c.args.self c.self.invariant c.self.view_is)
+    omega (arith, ints)
+    ∙ sym (exponent_is c.self.inside c.args.self c.self.invariant c.self.view_is)

@@ -19,7 +19,8 @@ returns c =
     let m_same : to_z w64 (of_z w64 m) ≡ m = to_z-of_z w64 m c.ranges.m in
     let shift_same : to_z w32 (of_z w32 shift) ≡ shift = to_z-of_z w32 shift fits in
     let abs : c.unsigned_abs.result ≡ unsigned_abs m = rw m_same at c.unsigned_abs.ensures.value in
-    let whole : unsigned_abs m ≡ size * 10 ^ noughts = sym abs ∙ c.without_noughts-size.ensures.whole in
+    let whole : unsigned_abs m ≡ size * 10 ^ noughts = sym abs
+    ∙ c.without_noughts-size.ensures.whole in
     let bound = c.unsigned_abs.ensures.bound in
     let shift_is : shift ≡ c.args.e +ℤ pos (1000 + noughts) = omega (arith, ints) in
     rw (m_same, shift_same) at c.in_form.ensures

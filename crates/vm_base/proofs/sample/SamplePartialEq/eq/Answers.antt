@@ -11,7 +11,8 @@ returns-then-self-other-2 c =
     elim c.if-self-other.branch [
       | then-self-other w ↦
           let signs = same_sign s.negative o.negative w.if-self-other.true in
-          let sizes : s.size ≡ o.size = grind (arith, nat_tests, w.value-is, c.if-self-other-2.true) in
+          let sizes : s.size ≡ o.size =
+          grind (arith, nat_tests, w.value-is, c.if-self-other-2.true) in
           alike s o c.args.self.now c.args.other.now
           c.self.invariant c.other.invariant c.self.view_is c.other.view_is signs sizes
       | else-self-other w ↦ absurd (cc (w.value-is, w.if-self-other.false, c.if-self-other-2.true))
@@ -29,5 +30,6 @@ returns-else-self-other-2 c =
           let sizes : s.size ≡ o.size → ⊥ =
           λ h. grind (arith, nat_tests, w.value-is, c.if-self-other-2.false) in
           differ (λ _ h _. sizes h)
-      | else-self-other w ↦ differ (λ h _ _. other_sign s.negative o.negative w.if-self-other.false h)
+      | else-self-other w ↦
+          differ (λ h _ _. other_sign s.negative o.negative w.if-self-other.false h)
     ]

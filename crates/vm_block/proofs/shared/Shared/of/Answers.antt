@@ -7,4 +7,5 @@ use Rattle.vm_block.proofs.shared.Shared.of.Goals as goal
 pub returns : goal.returns
 returns c =
     one_shared c.args.value _ c.m.ensures.sample c.shift_of.ensures.value
-    (c.unsigned_abs.ensures.value ∙ ap unsigned_abs (to_z-of_z w64 c.m.result (search rules) ∙ c.m.ensures.value))
+    (c.unsigned_abs.ensures.value
+    ∙ ap unsigned_abs (to_z-of_z w64 c.m.result (search rules) ∙ c.m.ensures.value))

@@ -6,7 +6,8 @@ use Rattle.vm_decimal.proofs.dec.Dec.ceil.Goals as goal
 pub returns-then-parts-ge-ONES : goal.returns-then-parts-ge-ONES
 returns-then-parts-ge-ONES c =
     let parts = c.in_parts-parts.result in
-    ceil_whole parts.negative parts.size parts.shift c.args.self c.in_parts-parts.ensures.value (omega arith)
+    ceil_whole parts.negative parts.size parts.shift c.args.self c.in_parts-parts.ensures.value
+    (omega arith)
 
 pub returns : goal.returns
 returns c =

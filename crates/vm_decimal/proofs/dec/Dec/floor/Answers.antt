@@ -6,7 +6,8 @@ use Rattle.vm_decimal.proofs.dec.Dec.floor.Goals as goal
 pub returns-then-parts-ge-ONES : goal.returns-then-parts-ge-ONES
 returns-then-parts-ge-ONES c =
     let parts = c.in_parts-parts.result in
-    floor_whole parts.negative parts.size parts.shift c.args.self c.in_parts-parts.ensures.value (omega arith)
+    floor_whole parts.negative parts.size parts.shift c.args.self c.in_parts-parts.ensures.value
+    (omega arith)
 
 pub returns : goal.returns
 returns c =

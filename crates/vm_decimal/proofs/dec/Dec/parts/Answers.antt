@@ -22,7 +22,8 @@ returns-clause-whole c =
     let m = to_z-of_z w128 s.mantissa (search rules) ∙ sym (signed-parts s.mantissa) in
     let e = to_z-of_z w16 c.exponent_of.result (search rules) ∙ c.exponent_of.ensures in
     ap₂ dec_of m e
-    ∙ dec_of-form (is_negative s.mantissa) (unsigned_abs s.mantissa) s.shift (pos s.shift -ℤ pos 1000)
+    ∙ dec_of-form (is_negative s.mantissa) (unsigned_abs s.mantissa) s.shift
+    (pos s.shift -ℤ pos 1000)
     c.self.invariant (omega (arith, ints))
     ∙ ap Some c.self.view_is
 

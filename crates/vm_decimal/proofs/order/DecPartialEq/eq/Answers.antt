@@ -22,4 +22,5 @@ returns-else-self-other c =
     let apart : (of_z w128 mine == of_z w128 its) ≡ false = grind (arith, nat_tests) in
     apart
     ∙ unlike c.self.inside c.other.inside c.args.self.now c.args.other.now
-    c.self.invariant c.other.invariant c.self.view_is c.other.view_is (λ h _. c.if-self-other.false (ap (of_z w128) h))
+    c.self.invariant c.other.invariant c.self.view_is c.other.view_is
+    (λ h _. c.if-self-other.false (ap (of_z w128) h))

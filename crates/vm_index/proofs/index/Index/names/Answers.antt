@@ -11,5 +11,6 @@ pub returns : goal.returns
 returns c =
     subst (AreTexts (is_name_in c.args.self.now))
     (sym (c.from_vec.ensures ∙ c.in_ok-names.ensures
-    ∙ ap (λ qs. dedup bytes_eq (map (λ (q : Posting). q.pair.name) qs)) (c.as_slice.ensures ∙ c.self.invariant.posted ∙ ap postings_of c.self.view_is)))
+    ∙ ap (λ qs. dedup bytes_eq (map (λ (q : Posting). q.pair.name) qs))
+    (c.as_slice.ensures ∙ c.self.invariant.posted ∙ ap postings_of c.self.view_is)))
     (names_are c.args.self.now)

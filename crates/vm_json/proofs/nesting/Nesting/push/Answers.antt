@@ -17,5 +17,6 @@ overflow_add-self c =
     let len = length-brackets c.self.inside.count c.self.inside.bits in
     let few : c.self.inside.count < 100 = omega arith in
     let fits = fits_one_more c.self.inside.count c.self.inside.bits few c.self.invariant.fits in
-    let one : c.match-bracket.bit ≤ 1 = elim c.match-bracket.branch [ in-Square w ↦ omega arith | in-Curly w ↦ omega arith ] in
+    let one : c.match-bracket.bit ≤ 1 =
+    elim c.match-bracket.branch [ in-Square w ↦ omega arith | in-Curly w ↦ omega arith ] in
     omega arith

@@ -10,14 +10,16 @@ use Rattle.vm_lines.proofs.reader.LineReader.advance.Goals as goal
 pub returns-then-self-clause-reads : goal.returns-then-self-clause-reads
 returns-then-self-clause-reads g c = λ knows.
     let none : c.args.self.now.ahead ≡ [] =
-    ap (λ (reading : Reading). reading.ahead) (sym c.self.view_is) ∙ c.self.invariant.2 c.if-self.true in
+    ap (λ (reading : Reading). reading.ahead) (sym c.self.view_is)
+    ∙ c.self.invariant.2 c.if-self.true in
     let met : c.args.self.now.ended ≡ true =
     ap (λ (reading : Reading). reading.ended) (sym c.self.view_is) ∙ c.if-self.true in
     let end = knows met in
     (none, none, refl, end.0, end.1)
 
 pub returns-then-self-clause-moves : goal.returns-then-self-clause-moves
-returns-then-self-clause-moves g c = ([], grows_nothing c.args.self.now (g.S.Source.left c.args.input.now), refl)
+returns-then-self-clause-moves g c =
+    ([], grows_nothing c.args.self.now (g.S.Source.left c.args.input.now), refl)
 
 -- the line stood ahead
 
@@ -26,7 +28,8 @@ returns-in-Some-clause-reads g c = λ knows.
     let found =
     subst (λ bytes. IsFirstFeed bytes c.in-Some.at) c.ahead.ensures.value c.in-Some.ensures in
     let grows = grows_nothing c.args.self.now (g.S.Source.left c.args.input.now) in
-    line_reads c.give.result c.give.new.self grows found c.give.ensures.ahead c.give.ensures.taken c.give.ensures.line
+    line_reads c.give.result c.give.new.self grows found c.give.ensures.ahead c.give.ensures.taken
+    c.give.ensures.line
 
 pub returns-in-Some-clause-moves : goal.returns-in-Some-clause-moves
 returns-in-Some-clause-moves g c =
@@ -36,7 +39,8 @@ returns-in-Some-clause-moves g c =
     let piece = take c.in-Some.at c.args.self.now.ahead in (
       piece ++ (10 ∷ []),
       line_moves c.give.new.self grows found c.give.ensures.ahead c.give.ensures.taken,
-      line_through c.give.result c.give.new.self.ended piece c.give.new.self.line piece c.give.ensures.line,
+      line_through c.give.result c.give.new.self.ended piece c.give.new.self.line piece
+          c.give.ensures.line,
     )
 
 pub returns-in-Some-clause-goes_on : goal.returns-in-Some-clause-goes_on

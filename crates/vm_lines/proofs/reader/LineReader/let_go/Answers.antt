@@ -19,7 +19,8 @@ returns-then-branch-eq0-clause-reads g c =
 pub returns-then-branch-eq0-clause-moves : goal.returns-then-branch-eq0-clause-moves
 returns-then-branch-eq0-clause-moves g c = (
   c.pieces.invariant.gone.gone,
-  long_end_moves c.end.new.self c.pieces.invariant.gone c.in_ok-take_piece.ensures.took c.if-branch-eq0.true
+  long_end_moves c.end.new.self c.pieces.invariant.gone c.in_ok-take_piece.ensures.took
+      c.if-branch-eq0.true
       c.end.ensures.ahead c.end.ensures.taken,
   (omega (arith, c.pieces.invariant.gone.long), inr c.end.ensures.ended),
 )
@@ -43,7 +44,8 @@ returns-then-branch-eq0-clause-end g c = λ is.
 pub returns-then-skip_line-clause-reads : goal.returns-then-skip_line-clause-reads
 returns-then-skip_line-clause-reads g c =
     let found = c.if-skip_line.ensures.found in
-    long_feed c.skip_line.new.self c.pieces.invariant.gone c.in_ok-take_piece.ensures.took found.1 found.2
+    long_feed c.skip_line.new.self c.pieces.invariant.gone c.in_ok-take_piece.ensures.took found.1
+    found.2
     c.skip_line.ensures.taken
 
 pub returns-then-skip_line-clause-moves : goal.returns-then-skip_line-clause-moves

@@ -9,7 +9,8 @@ pub returns-then-branch-eq0-clause-reads : goal.returns-then-branch-eq0-clause-r
 returns-then-branch-eq0-clause-reads g c =
     let took = c.in_ok-take_piece.ensures in
     ended c.last.result c.last.new.self c.pieces.invariant.grows c.pieces.invariant.clear took.took
-    c.if-branch-eq0.true took.end took.below c.last.ensures.ahead c.last.ensures.taken c.last.ensures.line
+    c.if-branch-eq0.true took.end took.below c.last.ensures.ahead c.last.ensures.taken
+    c.last.ensures.line
 
 pub returns-then-branch-eq0-clause-moves : goal.returns-then-branch-eq0-clause-moves
 returns-then-branch-eq0-clause-moves g c = (
@@ -41,7 +42,8 @@ returns-in-Some-clause-reads g c =
     let found =
     subst (λ bytes. IsFirstFeed bytes c.in-Some.at) c.ahead.ensures.value c.in-Some.ensures in
     let grows = grows_more c.pieces.invariant.grows c.in_ok-take_piece.ensures.took in
-    line_reads c.give.result c.give.new.self grows found c.give.ensures.ahead c.give.ensures.taken c.give.ensures.line
+    line_reads c.give.result c.give.new.self grows found c.give.ensures.ahead c.give.ensures.taken
+    c.give.ensures.line
 
 pub returns-in-Some-clause-moves : goal.returns-in-Some-clause-moves
 returns-in-Some-clause-moves g c =
@@ -51,7 +53,8 @@ returns-in-Some-clause-moves g c =
     let piece = take c.in-Some.at c.take_piece.new.self.ahead in (
       piece ++ (10 ∷ []),
       line_moves c.give.new.self grows found c.give.ensures.ahead c.give.ensures.taken,
-      line_through c.give.result c.give.new.self.ended piece c.give.new.self.line piece c.give.ensures.line,
+      line_through c.give.result c.give.new.self.ended piece c.give.new.self.line piece
+          c.give.ensures.line,
     )
 
 pub returns-in-Some-clause-goes_on : goal.returns-in-Some-clause-goes_on

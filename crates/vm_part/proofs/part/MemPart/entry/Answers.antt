@@ -19,6 +19,11 @@ bounds-as_slice-at c =
 pub returns : goal.returns
 returns c =
     let same = ap (λ (k : Kept). k.entries) c.self.view_is in
-    let many = entries_many c.args.self.now (λ all. ⊤) (subst (λ k. Says k (λ all. ⊤)) c.self.view_is c.self.invariant) in
-    let within = subst (λ n. c.args.ordinal < n) (sym many ∙ ap length (sym same ∙ sym c.as_slice.ensures)) c.requires in
-    ap (λ xs. slice_get xs c.args.ordinal) (sym same ∙ sym c.as_slice.ensures) ∙ slice_get-get_or c.as_slice.result.now c.args.ordinal _ within
+    let many =
+    entries_many c.args.self.now (λ all. ⊤)
+    (subst (λ k. Says k (λ all. ⊤)) c.self.view_is c.self.invariant) in
+    let within =
+    subst (λ n. c.args.ordinal < n) (sym many ∙ ap length (sym same ∙ sym c.as_slice.ensures))
+    c.requires in
+    ap (λ xs. slice_get xs c.args.ordinal) (sym same ∙ sym c.as_slice.ensures)
+    ∙ slice_get-get_or c.as_slice.result.now c.args.ordinal _ within

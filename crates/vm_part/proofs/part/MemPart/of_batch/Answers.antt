@@ -7,5 +7,7 @@ use Rattle.vm_part.proofs.part.MemPart.of_batch.Goals as goal
 
 pub build-requires : goal.build-requires
 build-requires c =
-    subst CanBeStored (sym (c.in_ok-series.ensures ∙ ap (series_of 0) (c.in_ok-pieces.ensures ∙ c.as_slice-rows.ensures)))
+    subst CanBeStored
+    (sym (c.in_ok-series.ensures
+    ∙ ap (series_of 0) (c.in_ok-pieces.ensures ∙ c.as_slice-rows.ensures)))
     (can_be_stored 0 c.args.batch.now.rows c.requires.some c.requires.rows)

@@ -13,8 +13,10 @@ build-requires c =
     let parts = c.args.parts.now in
     let d = c.args.interval in
     subst CanBeStored
-    (sym (c.in_ok-series.ensures ∙ ap (series_of d) (c.in_ok-pieces.ensures r.alls r.said (c.as_slice.ensures ∙ r.samples))))
-    (can_be_stored d (flat_map rows_in r.alls) (some_row kept parts r.alls r.said c.requires) (rows_are (map kept parts) r.alls r.said))
+    (sym (c.in_ok-series.ensures
+    ∙ ap (series_of d) (c.in_ok-pieces.ensures r.alls r.said (c.as_slice.ensures ∙ r.samples))))
+    (can_be_stored d (flat_map rows_in r.alls) (some_row kept parts r.alls r.said c.requires)
+    (rows_are (map kept parts) r.alls r.said))
 
 pub returns : goal.returns
 returns c =
@@ -23,8 +25,11 @@ returns c =
     let d = c.args.interval in
     let series = c.in_ok-series.series in
     let are : series ≡ series_of d (flat_map rows_in r.alls) =
-    c.in_ok-series.ensures ∙ ap (series_of d) (c.in_ok-pieces.ensures r.alls r.said (c.as_slice.ensures ∙ r.samples)) in
-    IfOk-weaker c.build.result (λ part. IsMadeOf series part) (λ part. IsMergedOf d (map kept parts) part)
+    c.in_ok-series.ensures
+    ∙ ap (series_of d)
+    (c.in_ok-pieces.ensures r.alls r.said (c.as_slice.ensures ∙ r.samples)) in
+    IfOk-weaker c.build.result (λ part. IsMadeOf series part)
+    (λ part. IsMergedOf d (map kept parts) part)
     (λ part made. record {
       alls = r.alls;
       hold = holds (map kept parts) r.alls r.said;

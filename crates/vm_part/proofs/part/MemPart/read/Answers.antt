@@ -10,4 +10,5 @@ returns-in_err-found-clause-only c = λ all is long.
     let fault = c.in_err-found.field-0.0 in
     let p = err_from_is_err_and c.from_residual.result c.from_residual.ensures.1 in
     rw (p.1, p.2) (nothing_but_memory c.args.len c.args.bytes.items all fault is long
-    (subst (λ bs. IsReadFault c.args.len bs fault) c.as_slice.ensures.value c.in_err-found.ensures.broken))
+    (subst (λ bs. IsReadFault c.args.len bs fault) c.as_slice.ensures.value
+    c.in_err-found.ensures.broken))

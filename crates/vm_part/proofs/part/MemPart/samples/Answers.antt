@@ -14,7 +14,8 @@ read_blocks-requires c =
     let entry = c.entry-said.result in
     let ordinal = c.args.ordinal in
     blocks_there bytes entry says.all ordinal
-    (standing c.args.self.now says.all ordinal entry bytes says.said.bytes says.said.entries c.image-bytes.ensures.bytes c.entry-said.ensures)
+    (standing c.args.self.now says.all ordinal entry bytes says.said.bytes says.said.entries
+    c.image-bytes.ensures.bytes c.entry-said.ensures)
 
 pub returns : goal.returns
 returns c =
@@ -22,8 +23,12 @@ returns c =
     let bytes = c.image-bytes.result.now in
     let entry = c.entry-said.result in
     let ordinal = c.args.ordinal in
-    let at = standing c.args.self.now says.all ordinal entry bytes says.said.bytes says.said.entries c.image-bytes.ensures.bytes c.entry-said.ensures in
-    IfOk-weaker c.read_blocks.result (λ samples. (blocks : List Block) → StandAt bytes entry blocks → samples ≡ samples_in blocks)
+    let at =
+    standing c.args.self.now says.all ordinal entry bytes says.said.bytes says.said.entries
+    c.image-bytes.ensures.bytes c.entry-said.ensures in
+    IfOk-weaker c.read_blocks.result
+    (λ samples. (blocks : List Block) → StandAt bytes entry blocks
+    → samples ≡ samples_in blocks)
     (λ samples. Says c.args.self.now (λ all. slice_get (map samples_of all) ordinal ≡ Some samples))
     (λ samples said. record {
       all = says.all;

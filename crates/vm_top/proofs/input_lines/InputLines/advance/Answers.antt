@@ -8,7 +8,11 @@ use Rattle.vm_top.proofs.input_lines.InputLines.advance.Goals as goal
 pub invariant_of-self : goal.invariant_of-self
 invariant_of-self g c =
     let moves = c.advance.ensures.moves in
-    omega (arith, c.self.invariant, to_go_moves c.self.inside.reader c.advance.new.self _ _ moves.0 moves.1)
+    omega (
+      arith,
+      c.self.invariant,
+      to_go_moves c.self.inside.reader c.advance.new.self _ _ moves.0 moves.1,
+    )
 
 -- no whole line came
 pub returns-in_err-step-clause-stops : goal.returns-in_err-step-clause-stops
@@ -20,7 +24,9 @@ returns-in_err-step-clause-stops g c =
     let after : Place = record { reading = c.advance.new.self; number = number } in
     let e = c.in_err-step.ensures in
     let stops : StopsAt before (left c.args.input.now) (left c.advance.new.input) =
-    stops_of c.in_err-step.field-0.0 before after (left c.args.input.now) (left c.advance.new.input) e.moves.0 e.moves.1 e.moves.2
+    stops_of c.in_err-step.field-0.0 before after (left c.args.input.now) (left c.advance.new.input)
+    e.moves.0 e.moves.1 e.moves.2
     e.needed (open_of reader.ended (λ is. let never = (e.once is).0 in absurd cc)) in
     on_err c.from_residual.result
-    (subst (λ (p : Place). StopsAt p (left c.args.input.now) (left c.advance.new.input)) c.self.view_is stops)
+    (subst (λ (p : Place). StopsAt p (left c.args.input.now) (left c.advance.new.input))
+    c.self.view_is stops)
